@@ -1,0 +1,4 @@
+pub mod Lending
+pub mod Number
+pub mod Shown
+pub mod formers

@@ -1,0 +1,24 @@
+//! What every other crate stands on: growing texts and lists, want of memory and faults, numbers in
+//! either byte order at a place of a record, the shown form of a text, and a counter of steps that only
+//! contracts see. Nothing here knows of stabs or of a.out files.
+//!
+//! The law that the layers above use: a field that is read is the number of its bytes.
+#![tactic(auto)]
+
+mod boxed;
+mod fault;
+mod layout;
+mod list;
+mod order;
+mod shown;
+mod steps;
+mod text;
+
+pub use boxed::Boxed;
+pub use fault::{Fault, Memory, Refused, UNBUILT};
+pub use layout::{Layout, one_spelling};
+pub use list::List;
+pub use order::Order;
+pub use shown::show;
+pub use steps::Steps;
+pub use text::Text;
