@@ -1,1 +1,4 @@
+pub mod BytesLemmas
+mod Examples
+pub mod FieldLemmas
 pub mod NumberLemmas

@@ -1,3 +1,5 @@
+pub mod ByteOrder
+pub mod Faults
 pub mod Lending
 pub mod Number
 pub mod Shown

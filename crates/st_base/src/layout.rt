@@ -1,5 +1,5 @@
-ghost use Rattle.std.specs.Prelude.{◌≡◌, ◌+◌, ◌≤◌, List, ℕ, length};
-ghost use Rattle.st_base.specs.Number.{number, number_at, IsBytes};
+ghost use Rattle.std.specs.Prelude.{◌≡◌, ◌+◌, ◌^◌, ◌<◌, ◌≤◌, ◌⊎◌, List, ℕ, length, take, drop};
+ghost use Rattle.st_base.specs.Number.{number, number_at, bytes_of, with_number_at, IsBytes};
 
 use byteorder::{BigEndian, ByteOrder, LittleEndian};
 
@@ -7,7 +7,7 @@ use byteorder::{BigEndian, ByteOrder, LittleEndian};
 /// last. Places are counted in bytes from 0.
 pub struct Layout<const BIG: bool, const SIZE: usize>;
 
-#[tactic(auto, using(crate::proofs::NumberLemmas::reads))]
+#[tactic(auto, using(crate::proofs::NumberLemmas::reads, std::proofs::lemmas::Slice::overwrites))]
 impl<const BIG: bool, const SIZE: usize> Layout<BIG, SIZE> {
     /// The byte at a place.
     pub fn get_u8(bytes: &[u8; SIZE], at: usize) -> u8
@@ -30,6 +30,19 @@ impl<const BIG: bool, const SIZE: usize> Layout<BIG, SIZE> {
         }
     }
 
+    /// The number of the three bytes at a place.
+    pub fn get_u24(bytes: &[u8; SIZE], at: usize) -> u32
+        requires { at + 3 ≤ SIZE }
+        ensures { result ≡ number_at BIG bytes.now at 3 }
+    {
+        let all = &bytes[..];
+        if BIG {
+            BigEndian::read_u24(&all[at..])
+        } else {
+            LittleEndian::read_u24(&all[at..])
+        }
+    }
+
     /// The number of the four bytes at a place.
     pub fn get_u32(bytes: &[u8; SIZE], at: usize) -> u32
         requires { at + 4 ≤ SIZE }
@@ -42,9 +55,137 @@ impl<const BIG: bool, const SIZE: usize> Layout<BIG, SIZE> {
             LittleEndian::read_u32(&all[at..])
         }
     }
+
+    /// Sets the byte at a place; all other bytes stay.
+    pub fn put_u8(bytes: &mut [u8; SIZE], at: usize, value: u8)
+        requires { at + 1 ≤ SIZE }
+        ensures whole { bytes.new ≡ with_number_at BIG bytes.old at 1 value }
+        ensures field { number_at BIG bytes.new at 1 ≡ value }
+        ensures before { take at bytes.new ≡ take at bytes.old }
+        ensures after { drop (at + 1) bytes.new ≡ drop (at + 1) bytes.old }
+    {
+        bytes[at] = value;
+    }
+
+    /// Sets the two bytes at a place to a number; all other bytes stay.
+    pub fn put_u16(bytes: &mut [u8; SIZE], at: usize, value: u16)
+        requires { at + 2 ≤ SIZE }
+        ensures whole { bytes.new ≡ with_number_at BIG bytes.old at 2 value }
+        ensures field { number_at BIG bytes.new at 2 ≡ value }
+        ensures before { take at bytes.new ≡ take at bytes.old }
+        ensures after { drop (at + 2) bytes.new ≡ drop (at + 2) bytes.old }
+    {
+        let all = &mut bytes[..];
+        if BIG {
+            BigEndian::write_u16(&mut all[at..at + 2], value);
+        } else {
+            LittleEndian::write_u16(&mut all[at..at + 2], value);
+        }
+    }
+
+    /// Sets the three bytes at a place to a number below 2^24; all other bytes stay.
+    pub fn put_u24(bytes: &mut [u8; SIZE], at: usize, value: u32)
+        requires within { at + 3 ≤ SIZE }
+        requires fits { value < 2 ^ 24 }
+        ensures whole { bytes.new ≡ with_number_at BIG bytes.old at 3 value }
+        ensures field { number_at BIG bytes.new at 3 ≡ value }
+        ensures before { take at bytes.new ≡ take at bytes.old }
+        ensures after { drop (at + 3) bytes.new ≡ drop (at + 3) bytes.old }
+    {
+        let all = &mut bytes[..];
+        if BIG {
+            BigEndian::write_u24(&mut all[at..at + 3], value);
+        } else {
+            LittleEndian::write_u24(&mut all[at..at + 3], value);
+        }
+    }
+
+    /// Sets the four bytes at a place to a number; all other bytes stay.
+    pub fn put_u32(bytes: &mut [u8; SIZE], at: usize, value: u32)
+        requires { at + 4 ≤ SIZE }
+        ensures whole { bytes.new ≡ with_number_at BIG bytes.old at 4 value }
+        ensures field { number_at BIG bytes.new at 4 ≡ value }
+        ensures before { take at bytes.new ≡ take at bytes.old }
+        ensures after { drop (at + 4) bytes.new ≡ drop (at + 4) bytes.old }
+    {
+        let all = &mut bytes[..];
+        if BIG {
+            BigEndian::write_u32(&mut all[at..at + 4], value);
+        } else {
+            LittleEndian::write_u32(&mut all[at..at + 4], value);
+        }
+    }
 }
 
 /// A number has one spelling in so many bytes: fields with equal numbers hold equal bytes.
 pub fn one_spelling<const BIG: bool>()
     ensures { (x y : List ℕ) → IsBytes x → IsBytes y → length x ≡ length y → number BIG x ≡ number BIG y → x ≡ y }
 {}
+
+/// The bytes of a number and the number of bytes are inverse to each other: a number that fits is the number of its bytes, and
+/// the bytes of a number read are those bytes again.
+pub fn number_laws<const BIG: bool>()
+    ensures number { (size value : ℕ) → value < 256 ^ size → number BIG (bytes_of BIG size value) ≡ value }
+    ensures bytes { (x : List ℕ) → IsBytes x → bytes_of BIG (length x) (number BIG x) ≡ x }
+{}
+
+/// The laws of the fields of a record of `SIZE` bytes: a field that is set is read as what it was set to, a field that is read
+/// and set to what was read leaves the record, and a field that lies apart stays.
+pub fn field_laws<const BIG: bool, const SIZE: usize>()
+    ensures set_then_read { (bytes : List ℕ) (at size value : ℕ) → length bytes ≡ SIZE → at + size ≤ SIZE → value < 256 ^ size
+        → number_at BIG (with_number_at BIG bytes at size value) at size ≡ value }
+    ensures read_then_set { (bytes : List ℕ) (at size : ℕ) → IsBytes bytes → length bytes ≡ SIZE → at + size ≤ SIZE
+        → with_number_at BIG bytes at size (number_at BIG bytes at size) ≡ bytes }
+    ensures apart { (bytes : List ℕ) (at size value other other_size : ℕ) → length bytes ≡ SIZE → at + size ≤ SIZE
+        → (other + other_size ≤ at) ⊎ (at + size ≤ other)
+        → number_at BIG (with_number_at BIG bytes at size value) other other_size ≡ number_at BIG bytes other other_size }
+{}
+
+#[cfg(test)]
+mod tests {
+    use super::*;
+
+    #[test]
+    fn each_width_is_set_and_read_in_big_order(rt: HostRuntime) {
+        let mut bytes = [0xee; 12];
+        Layout::<true, 12>::put_u8(&mut bytes, 1, 0x11);
+        Layout::<true, 12>::put_u16(&mut bytes, 2, 0x2122);
+        Layout::<true, 12>::put_u24(&mut bytes, 4, 0x31_3233);
+        Layout::<true, 12>::put_u32(&mut bytes, 7, 0x4142_4344);
+        let expected = [
+            0xee, // before the first field
+            0x11, // one byte
+            0x21, 0x22, // two bytes
+            0x31, 0x32, 0x33, // three bytes
+            0x41, 0x42, 0x43, 0x44, // four bytes
+            0xee, // behind the last field
+        ];
+        assert_eq!(rt; bytes, expected);
+        assert_eq!(rt; Layout::<true, 12>::get_u8(&bytes, 1), 0x11);
+        assert_eq!(rt; Layout::<true, 12>::get_u16(&bytes, 2), 0x2122);
+        assert_eq!(rt; Layout::<true, 12>::get_u24(&bytes, 4), 0x31_3233);
+        assert_eq!(rt; Layout::<true, 12>::get_u32(&bytes, 7), 0x4142_4344);
+    }
+
+    #[test]
+    fn each_width_is_set_and_read_in_little_order(rt: HostRuntime) {
+        let mut bytes = [0xee; 12];
+        Layout::<false, 12>::put_u8(&mut bytes, 1, 0x11);
+        Layout::<false, 12>::put_u16(&mut bytes, 2, 0x2122);
+        Layout::<false, 12>::put_u24(&mut bytes, 4, 0x31_3233);
+        Layout::<false, 12>::put_u32(&mut bytes, 7, 0x4142_4344);
+        let expected = [
+            0xee, // before the first field
+            0x11, // one byte
+            0x22, 0x21, // two bytes
+            0x33, 0x32, 0x31, // three bytes
+            0x44, 0x43, 0x42, 0x41, // four bytes
+            0xee, // behind the last field
+        ];
+        assert_eq!(rt; bytes, expected);
+        assert_eq!(rt; Layout::<false, 12>::get_u8(&bytes, 1), 0x11);
+        assert_eq!(rt; Layout::<false, 12>::get_u16(&bytes, 2), 0x2122);
+        assert_eq!(rt; Layout::<false, 12>::get_u24(&bytes, 4), 0x31_3233);
+        assert_eq!(rt; Layout::<false, 12>::get_u32(&bytes, 7), 0x4142_4344);
+    }
+}

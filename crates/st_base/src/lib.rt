@@ -2,7 +2,8 @@
 //! either byte order at a place of a record, the shown form of a text, and a counter of steps that only
 //! contracts see. Nothing here knows of stabs or of a.out files.
 //!
-//! The law that the layers above use: a field that is read is the number of its bytes.
+//! The law that the layers above use: a field that is read is the number of its bytes, a field that is set is read
+//! as what it was set to, and all other bytes stay.
 #![tactic(auto)]
 
 mod boxed;
@@ -15,8 +16,11 @@ mod steps;
 mod text;
 
 pub use boxed::Boxed;
-pub use fault::{Fault, Memory, Refused, UNBUILT};
-pub use layout::{Layout, one_spelling};
+pub use fault::{
+    ADDRESS, FLAG, Fault, INSIDE, KIND, LENGTH, LENGTH8, MACHINE, MAGIC, Memory, NO_END, OUTSIDE,
+    OVERFLOW, PAST, RELOC_BYTES, Refused, SEGMENT, SYMBOL_BYTES, TRAILING, TRUNCATED, UNBUILT,
+};
+pub use layout::{Layout, field_laws, number_laws, one_spelling};
 pub use list::List;
 pub use order::Order;
 pub use shown::show;

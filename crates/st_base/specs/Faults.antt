@@ -1,0 +1,21 @@
+-- Checks of an input that are made in order, and the fault of the first that the input does not pass.
+use Rattle.std.specs.Prelude.{ℕ, Bool, if◌then◌else◌, List, [], ◌∷◌, Option, Some, None}
+use Rattle.st_base.specs.declared.fault.Fault.{Fault}
+
+-- the fault with this number and place that needs no more to tell where it is
+abbrev pub fault_at : ℕ → ℕ → Fault
+fault_at number place = record { number = number; place = place; within = 0 }
+
+-- what an input must hold, and its fault where it does not
+pub record Check : Type 0 where
+  pub holds : Bool
+  pub fault : Fault
+
+-- the check that an input holds something, with the number and place of its fault
+abbrev pub check : Bool → ℕ → ℕ → Check
+check holds number place = record { holds = holds; fault = fault_at number place }
+
+-- the fault of the first check that does not hold; none where all hold
+abbrev pub first_fault : List Check → Option Fault
+first_fault [] = None
+first_fault (c ∷ checks) = if c.holds then first_fault checks else Some c.fault
