@@ -1,0 +1,88 @@
+-- Worked values of what a call may answer. The files hold the bytes 1 2 3 under the name `a`, and the sink
+-- holds the byte 7.
+use Rattle.std.proofs.Common.{◌≡◌, List, ℕ, [], ◌∷◌, Some, None, refl, lit≤, lit<, ◌∙◌, arith}
+use Rattle.std.specs.Prelude.{codes}
+use Rattle.std.specs.Cmp.Lexicographic.{nat_list_cmp_total}
+use Rattle.std.specs.FinMap.{get, insert, empty, get-insert, get-empty}
+use Rattle.outside.specs.Causes.{Contents, Rose, Loads, Stores, Puts, last_count, next_count, last_after}
+use Rattle.outside.specs.declared.files.Loaded.TheVariants as loaded
+use Rattle.outside.specs.declared.files.Stored.TheVariants as stored
+use Rattle.outside.specs.declared.sink.Put.TheVariants as put
+
+abbrev a : List ℕ
+a = codes "a"
+
+abbrev b : List ℕ
+b = codes "b"
+
+abbrev bytes : List ℕ
+bytes = 1 ∷ 2 ∷ 3 ∷ []
+
+abbrev files : Contents
+files = insert empty a bytes
+
+has_a : get files a ≡ Some bytes
+has_a = get-insert nat_list_cmp_total empty a bytes a
+
+lacks_b : get files b ≡ None
+lacks_b = get-insert nat_list_cmp_total empty a bytes b ∙ get-empty _ b
+
+-- ---- counts
+
+-- a count that stood at 4 rose where it is 5, and did not where it is 4
+Rose-5 : Rose 4 5
+Rose-5 = lit≤ tt
+
+Rose-4 : ¬ (Rose 4 4)
+Rose-4 rose = absurd (omega arith)
+
+-- at its last value it stands still, and reads as one that rose
+next_count-last : next_count last_count ≡ 18446744073709551615
+next_count-last = refl
+
+Rose-last : Rose last_count last_count
+Rose-last = lit≤ tt
+
+-- ---- loads
+
+-- all three bytes, where three may come; they are long where two may
+Loads-3 : Loads (Some files) 0 0 a 3 (loaded.Bytes bytes)
+Loads-3 = (has_a, lit≤ tt)
+
+Loads-2 : Loads (Some files) 0 0 a 2 loaded.Long
+Loads-2 = (bytes, has_a, lit< tt)
+
+-- `b` is absent; without told contents that is a failed load, and so is every other failure
+Loads-b : Loads (Some files) 0 0 b 3 loaded.Absent
+Loads-b = lacks_b
+
+Loads-untold : ¬ (Loads None 0 0 b 3 loaded.Absent)
+Loads-untold rose = absurd (omega arith)
+
+Loads-failed : ¬ (Loads (Some files) 0 0 a 3 loaded.Failed)
+Loads-failed rose = absurd (omega arith)
+
+-- `a` is not absent
+Loads-a : ¬ (Loads (Some files) 0 0 a 3 loaded.Absent)
+Loads-a lacks = let held = has_a in cc
+
+-- ---- the last failed load
+
+last_after-told : last_after (Some files) (Some a) b loaded.Absent ≡ Some a
+last_after-told = refl
+
+last_after-untold : last_after None (Some a) b loaded.Absent ≡ Some b
+last_after-untold = refl
+
+-- ---- stores and puts
+
+-- a store puts the bytes there; it fails only where the count of stores rose
+Stores-done : Stores (Some empty) (Some files) 0 0 a bytes stored.Done
+Stores-done = refl
+
+Stores-failed : ¬ (Stores (Some empty) (Some empty) 0 0 a bytes stored.Failed)
+Stores-failed failed = absurd (omega (arith, failed.1))
+
+-- a put that fails may have appended the first of two bytes
+Puts-failed : Puts (Some (7 ∷ [])) (Some (7 ∷ 8 ∷ [])) 0 1 (8 ∷ 9 ∷ []) put.Failed
+Puts-failed = ((8 ∷ [], 9 ∷ [], refl, refl), lit≤ tt)

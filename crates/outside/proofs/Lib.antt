@@ -1,0 +1,3 @@
+pub mod HeldLemmas
+pub mod TransferLemmas
+pub mod Examples

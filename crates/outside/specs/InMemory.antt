@@ -1,0 +1,60 @@
+-- What files and a sink in memory show, and how each call changes it. They fail exactly at the calls whose
+-- numbers they were given, so that a test can have any call fail. Calls count from 0. This is this project's
+-- own.
+use Rattle.std.specs.Prelude.{ℕ, List, ◌++◌, Option, Some, refl}
+use Rattle.std.specs.Coded.{Coded, code_by, coded×, coded_ℕ, coded_list, coded_option}
+use Rattle.std.specs.FinMap.{insert}
+use Rattle.std.specs.FinMap as map
+use Rattle.outside.specs.Causes.{Contents, next_count}
+use Rattle.outside.specs.declared.files.Loaded.{Loaded}
+use Rattle.outside.specs.declared.files.Loaded.TheVariants as loaded
+use Rattle.outside.specs.declared.files.Stored.{Stored}
+use Rattle.outside.specs.declared.files.Stored.TheVariants as stored
+use Rattle.outside.specs.declared.sink.Put.{Put}
+use Rattle.outside.specs.declared.sink.Put.TheVariants as put
+
+-- ---- files
+
+-- the contents by their names, the numbers of the calls that are to fail, how many loads and stores there
+-- were, how many of each failed, and the name of the last failed load
+pub record FilesInMemory : Type 0 where
+  pub contents : Contents
+  pub failing : List ℕ
+  pub calls : ℕ
+  pub load_faults : ℕ
+  pub store_faults : ℕ
+  pub last_failed : Option (List ℕ)
+
+-- they are stored as the tuple of these
+abbrev pub files_code : Coded FilesInMemory
+files_code =
+    code_by (Contents × (List ℕ × (ℕ × (ℕ × (ℕ × Option (List ℕ))))))
+    (coded× (map.code (coded_list coded_ℕ) (coded_list coded_ℕ)) (coded× (coded_list coded_ℕ) (coded× coded_ℕ (coded× coded_ℕ (coded× coded_ℕ (coded_option (coded_list coded_ℕ)))))))
+    (λ files. (files.contents, (files.failing, (files.calls, (files.load_faults, (files.store_faults, files.last_failed))))))
+    (λ t. record { contents = t.0; failing = t.1.0; calls = t.1.1.0; load_faults = t.1.1.1.0; store_faults = t.1.1.1.1.0; last_failed = t.1.1.1.1.1 }) (λ _. refl)
+
+-- the files after a load of this name that answers so
+abbrev pub after_load : FilesInMemory → List ℕ → Loaded → FilesInMemory
+after_load files name loaded.Failed = record files { calls = next_count files.calls; load_faults = next_count files.load_faults; last_failed = Some name }
+after_load files name answer = record files { calls = next_count files.calls }
+
+-- the files after a store of these bytes under this name that answers so: a failed one changes no content
+abbrev pub after_store : FilesInMemory → List ℕ → List ℕ → Stored → FilesInMemory
+after_store files name bytes stored.Done = record files { calls = next_count files.calls; contents = insert files.contents name bytes }
+after_store files name bytes stored.Failed = record files { calls = next_count files.calls; store_faults = next_count files.store_faults }
+after_store files name bytes stored.Memory = record files { calls = next_count files.calls }
+
+-- ---- a sink
+
+-- the bytes written, the numbers of the puts that are to fail, how many puts there were, and how many failed
+pub record SinkInMemory : Type 0 where
+  pub written : List ℕ
+  pub failing : List ℕ
+  pub calls : ℕ
+  pub faults : ℕ
+
+-- the sink after a put of these bytes that answers so: a failed one appends nothing
+abbrev pub after_put : SinkInMemory → List ℕ → Put → SinkInMemory
+after_put sink bytes put.Done = record sink { calls = next_count sink.calls; written = sink.written ++ bytes }
+after_put sink bytes put.Failed = record sink { calls = next_count sink.calls; faults = next_count sink.faults }
+after_put sink bytes put.Memory = record sink { calls = next_count sink.calls }

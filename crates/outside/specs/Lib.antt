@@ -1,0 +1,5 @@
+pub mod Causes
+pub mod Held
+pub mod InMemory
+pub mod OnDisk
+pub mod Transfer

@@ -1,0 +1,112 @@
+ghost use Rattle.std.specs.Prelude.{◌≡◌, ◌+◌, ◌<◌, length, vec_len, IfOk};
+ghost use Rattle.std.specs.Bool.{OnTrue, OnFalse};
+ghost use Rattle.std.specs.Io.KnownBytes.{Appends};
+ghost use Rattle.outside.specs.Transfer.{ReadsOnce, ReadsWhole, TakesAtMost, AppendsFront};
+
+use crate::files::Loaded;
+use st_base::Text;
+use std::alloc::{AllocError, Global};
+use std::io::{Read, Write};
+
+/// How many bytes a reader is asked for at once: a large file takes few reads.
+const PIECE: usize = 65536;
+
+/// What one read came to.
+#[derive(Clone, Copy, Drop)]
+pub enum Step {
+    /// Bytes were read, and appended to the text.
+    More,
+    /// Nothing is left.
+    End,
+    /// The read failed.
+    Failed,
+    /// Want of memory.
+    Memory,
+}
+
+/// So many bytes to read into.
+fn room_of(alloc: Global, size: usize) -> Result<Vec<u8>, AllocError>
+    ensures { IfOk result (λ room. vec_len room ≡ size) }
+{
+    vec![in alloc; 0u8; size]
+}
+
+/// Reads once into `room`, and appends what was read to a text.
+#[tactic(auto, using(crate::proofs::TransferLemmas::takes))]
+fn read_more<R: Read>(from: &mut R, room: &mut [u8], text: &mut Text) -> Step
+    requires { 0 < length room.old }
+    ensures read { ReadsOnce (R.remaining from.old) (R.remaining from.new) text.old text.new (length room.old) result }
+    ensures asked { TakesAtMost (length room.old) (R.remaining from.old) (R.remaining from.new) }
+{
+    match from.read(room) {
+        Err(_) => Step::Failed,
+        Ok(0) => Step::End,
+        Ok(count) => match text.extend(&room[..count]) {
+            Ok(()) => Step::More,
+            Err(_) => Step::Memory,
+        },
+    }
+}
+
+/// As `read_whole`, with bytes to read into.
+fn read_by<R: Read>(alloc: Global, from: &mut R, most: u64, room: &mut [u8]) -> Loaded
+    requires { 0 < length room.old }
+    ensures read { ReadsWhole (R.remaining from.old) most result }
+    ensures asked { TakesAtMost (most + 1) (R.remaining from.old) (R.remaining from.new) }
+{
+    let mut text = Text::new(alloc);
+    while text.bytes().len() as u64 <= most {
+        let left = most - text.bytes().len() as u64;
+        let asked = left.saturating_add(1).min(room.len() as u64) as usize;
+        match read_more(from, &mut room[..asked], &mut text) {
+            Step::More => {}
+            Step::End => return Loaded::Bytes(text),
+            Step::Failed => return Loaded::Failed,
+            Step::Memory => return Loaded::Memory,
+        }
+    }
+    Loaded::Long
+}
+
+/// What a reader has left, if it has at most `most` bytes. It is asked for at most `most` + 1 bytes in all,
+/// and a read that gives nothing is the end.
+pub fn read_whole<R: Read>(alloc: Global, from: &mut R, most: u64) -> Loaded
+    ensures read { ReadsWhole (R.remaining from.old) most result }
+    ensures asked { TakesAtMost (most + 1) (R.remaining from.old) (R.remaining from.new) }
+{
+    match room_of(alloc, PIECE) {
+        Ok(mut room) => read_by(alloc, from, most, &mut room),
+        Err(_) => Loaded::Memory,
+    }
+}
+
+/// Writes all bytes, and tells whether it could. A writer that takes nothing of a piece fails.
+pub fn write_whole<W: Write>(to: &mut W, bytes: &[u8]) -> bool
+    ensures done { OnTrue result (Appends (W.contents to.old) (W.contents to.new) bytes.now) }
+    ensures failed { OnFalse result (AppendsFront (W.contents to.old) (W.contents to.new) bytes.now) }
+{
+    let mut rest = bytes;
+    while !rest.is_empty() {
+        match to.write(rest) {
+            Err(_) => return false,
+            Ok(0) => return false,
+            Ok(count) => rest = &rest[count..],
+        }
+    }
+    true
+}
+
+/// Writes all bytes and flushes them, and tells whether it could.
+#[tactic(auto, using(crate::proofs::TransferLemmas::keeps))]
+pub fn write_through<W: Write>(to: &mut W, bytes: &[u8]) -> bool
+    ensures done { OnTrue result (Appends (W.contents to.old) (W.contents to.new) bytes.now) }
+    ensures failed { OnFalse result (AppendsFront (W.contents to.old) (W.contents to.new) bytes.now) }
+{
+    if !write_whole(to, bytes) {
+        return false;
+    }
+    match to.flush() {
+        Ok(()) => true,
+        Err(_) => false,
+    }
+}
