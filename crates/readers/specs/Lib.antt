@@ -1,0 +1,4 @@
+pub mod Spelling
+pub mod Readers
+pub mod Words
+pub mod Faults
