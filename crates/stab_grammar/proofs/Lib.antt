@@ -1,0 +1,11 @@
+pub mod DefinitionLemmas
+pub mod SurfaceLemmas
+mod Equations
+mod Parts
+mod Fields
+mod Forms
+mod Level
+mod Types
+mod Symbols
+mod Whole
+mod Examples

@@ -1,0 +1,10 @@
+pub mod Spelling
+pub mod Depth
+pub mod Shape
+pub mod Keys
+pub mod Surface
+pub mod Definitions
+pub mod Printing
+pub mod Small
+pub mod Grammar
+pub mod StringFaults

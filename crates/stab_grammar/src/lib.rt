@@ -1,0 +1,23 @@
+//! Stab strings: a symbol is a name, a colon, a descriptor and a type, and a type is a tree with one
+//! spelling. This crate has the trees, the printer and the parser.
+//!
+//! The law that the layers above use: each tree that has a spelling is read back from it, and what is
+//! read is spelled so. After "The stabs debug format", the C parts.
+#![tactic(auto)]
+
+mod grammar;
+mod keys;
+mod placed;
+mod printing;
+mod read;
+mod small;
+#[cfg(test)]
+mod tests;
+mod tree;
+
+pub use keys::key_of;
+pub use placed::print_placed;
+pub use printing::{letters_of, print, print_type};
+pub use read::{one_place, one_symbol};
+pub use small::parse;
+pub use tree::{Choice, Descriptor, Field, Key, Num, Numeral, Symbol, Tag, TypeTree};
