@@ -1,0 +1,133 @@
+-- An index of definitions: what is noted of the definitions in a type by its forms; and that noting all definitions of a unit,
+-- one after another, gives the definition of each key.
+use Rattle.std.proofs.Common.{◌≡◌, ℕ, ◌+◌, ◌<◌, length, drop, get_or, Bool, true, false, List, [], ◌∷◌, ◌++◌, refl, sym, ap, ◌∙◌, ⊎_elim, cond, OnOk}
+use Rattle.std.specs.Prelude.{◌&&◌, ◌==◌, not, Option, Some, None, Result, Ok, Err, flat_map}
+use Rattle.std.specs.List.{find}
+use Rattle.std.specs.BTreeMap.{BTreeMap}
+use Rattle.std.specs.Borrow.{Bor}
+use Rattle.std.proofs.lemmas.List.{drop_more}
+use Rattle.std.proofs.lemmas.Bool.{eqb-true}
+use Rattle.stab_grammar.specs.declared.tree.Key.{Key}
+use Rattle.stab_grammar.specs.declared.tree.Num.{Num}
+use Rattle.stab_grammar.specs.declared.tree.Numeral.{Numeral}
+use Rattle.stab_grammar.specs.declared.tree.TypeTree.{TypeTree}
+use Rattle.stab_grammar.specs.declared.tree.TypeTree.TheVariants.{Def, Array}
+use Rattle.stab_grammar.specs.Definitions.{Definition, definitions_in, is_cross}
+use Rattle.stab_grammar.specs.Surface.{same_key}
+use Rattle.stab_grammar.proofs.DefinitionLemmas.{definitions-Def, definitions-Array}
+use Rattle.stabs_tool.specs.declared.types.unit.Unit.{Unit}
+use Rattle.stabs_tool.specs.Units.{definitions_of, definition_of, first_of, body_of, or_else, is_full, is_any}
+use Rattle.stabs_tool.specs.Searches.{defined}
+use Rattle.stabs_tool.specs.Indexes.{better, noted, noted_all, main_key, body_in, looked_up}
+use Rattle.stabs_tool.proofs.KeyLemmas.{which}
+
+-- ---- noting is finding the first
+
+-- a definition that is no cross reference stays
+noted-settled : (key : Key) (body : TypeTree) (ds : List Definition) → is_cross body ≡ false → noted_all key (Some body) ds ≡ Some body
+noted-settled key body [] full = refl
+noted-settled key body (d ∷ ds) full =
+    ap (λ (z : Option TypeTree). noted_all key z ds) (stays (same_key key d.key) d.body) ∙ noted-settled key body ds full
+  where
+    stays : (b : Bool) (other : TypeTree) → cond b (better (Some body) other) (Some body) ≡ Some body
+    stays true other = ap (λ (b : Bool). cond (b && not (is_cross other)) (Some other) (Some body)) full
+    stays false other = refl
+
+-- a cross reference gives way to the first definition that is none
+gives_way : (s c : Bool) (body other : TypeTree) → is_cross body ≡ true
+    → cond s (cond (is_cross body && not c) (Some other) (Some body)) (Some body) ≡ cond (s && not c) (Some other) (Some body)
+gives_way true c body other cross = ap (λ (b : Bool). cond (b && not c) (Some other) (Some body)) cross
+gives_way false c body other cross = refl
+
+full_no_cross : (s c : Bool) → (s && not c) ≡ true → c ≡ false
+full_no_cross true true e = sym e
+full_no_cross true false e = refl
+full_no_cross false c e = absurd (cc)
+
+noted-pending : (key : Key) (body : TypeTree) (ds : List Definition) → is_cross body ≡ true
+    → noted_all key (Some body) ds ≡ or_else (body_of (find (is_full key) ds)) (Some body)
+noted-pending key body [] cross = refl
+noted-pending key body (d ∷ ds) cross =
+    let next : noted key (Some body) d ≡ cond (is_full key d) (Some d.body) (Some body) = gives_way (same_key key d.key) (is_cross d.body) body d.body cross in
+    let rest = λ (b : Bool). or_else (body_of (cond b (Some d) (find (is_full key) ds))) (Some body) in
+    ap (λ (z : Option TypeTree). noted_all key z ds) next ∙ ⊎_elim
+    (λ full. ap (λ (b : Bool). noted_all key (cond b (Some d.body) (Some body)) ds) full
+    ∙ noted-settled key d.body ds (full_no_cross (same_key key d.key) (is_cross d.body) full) ∙ sym (ap rest full))
+    (λ other. ap (λ (b : Bool). noted_all key (cond b (Some d.body) (Some body)) ds) other ∙ noted-pending key body ds cross ∙ sym (ap rest other))
+    (which (is_full key d))
+
+body_of-or_else : (o : Option Definition) (d : Definition) → or_else (body_of o) (Some d.body) ≡ body_of (or_else o (Some d))
+body_of-or_else None d = refl
+body_of-or_else (Some e) d = refl
+
+-- noting all gives the first that is no cross reference, or else the first cross reference
+pub noted-first : (key : Key) (ds : List Definition) → noted_all key None ds ≡ first_of key ds
+noted-first key [] = refl
+noted-first key (d ∷ ds) =
+    let all = find (is_full key) ds in
+    let any = find (is_any key) ds in
+    let first = λ (s c : Bool). body_of (or_else (cond (s && not c) (Some d) all) (cond s (Some d) any)) in
+    ⊎_elim
+    (λ same. ap (λ (b : Bool). noted_all key (cond b (Some d.body) None) ds) same ∙ ⊎_elim
+    (λ cross. noted-pending key d.body ds cross ∙ body_of-or_else all d ∙ sym (ap (λ (c : Bool). first true c) cross))
+    (λ full. noted-settled key d.body ds full ∙ sym (ap (λ (c : Bool). first true c) full))
+    (which (is_cross d.body))
+    ∙ sym (ap (λ (b : Bool). first b (is_cross d.body)) same))
+    (λ other. ap (λ (b : Bool). noted_all key (cond b (Some d.body) None) ds) other ∙ noted-first key ds ∙ sym (ap (λ (b : Bool). first b (is_cross d.body)) other))
+    (which (same_key key d.key))
+
+-- ---- noting in two lists, and in a type
+
+-- the definitions of two lists are noted one list after the other
+noted-append : (key : Key) (known : Option TypeTree) (ds es : List Definition) → noted_all key known (ds ++ es) ≡ noted_all key (noted_all key known ds) es
+noted-append key known [] es = refl
+noted-append key known (d ∷ ds) es = noted-append key (noted key known d) ds es
+
+-- a definition and then what is inside
+pub noted-Def : (key : Key) (before between after : Option TypeTree) (tree : TypeTree) (num : Num) (t body : TypeTree) → tree ≡ Def num t → body ≡ t
+    → between ≡ noted key before (defined num body) → after ≡ noted_all key between (definitions_in body) → after ≡ noted_all key before (definitions_in tree)
+noted-Def key before between after tree num t body e same first second =
+    second ∙ ap (λ (z : Option TypeTree). noted_all key z (definitions_in body)) first
+    ∙ ap (noted_all key before) (sym (definitions-Def num body) ∙ ap (λ (z : TypeTree). definitions_in (Def num z)) same ∙ ap definitions_in (sym e))
+
+-- the index of an array and then its items
+pub noted-Array : (key : Key) (before between after : Option TypeTree) (tree i index : TypeTree) (low high : Numeral) (t item : TypeTree) → tree ≡ Array i low high t → index ≡ i → item ≡ t
+    → between ≡ noted_all key before (definitions_in index) → after ≡ noted_all key between (definitions_in item) → after ≡ noted_all key before (definitions_in tree)
+noted-Array key before between after tree i index low high t item e same same_item first second =
+    second ∙ ap (λ (z : Option TypeTree). noted_all key z (definitions_in item)) first ∙ sym (noted-append key before (definitions_in index) (definitions_in item))
+    ∙ ap (λ (z : TypeTree). noted_all key before (definitions_in z ++ definitions_in item)) same
+    ∙ ap (λ (z : TypeTree). noted_all key before (definitions_in i ++ definitions_in z)) same_item
+    ∙ ap (noted_all key before) (sym (definitions-Array i low high t) ∙ ap definitions_in (sym e))
+
+-- one item of a list more
+pub noted-behind : {A : Type 0} (definitions : A → List Definition) (key : Key) (before after : Option TypeTree) (xs : List A) (at : ℕ) (x : A) (r : Option TypeTree)
+    → at < length xs → x ≡ get_or xs at x → after ≡ noted_all key before (definitions x) → noted_all key before (flat_map definitions (drop at xs)) ≡ r
+    → noted_all key after (flat_map definitions (drop (at + 1) xs)) ≡ r
+noted-behind {A} definitions key before after xs at x r within is more all =
+    ap (λ (z : Option TypeTree). noted_all key z (flat_map definitions (drop (at + 1) xs))) more
+    ∙ sym (noted-append key before (definitions x) (flat_map definitions (drop (at + 1) xs)))
+    ∙ ap (λ (z : A). noted_all key before (flat_map definitions (z ∷ drop (at + 1) xs))) is
+    ∙ ap (λ (z : List A). noted_all key before (flat_map definitions z)) (sym (drop_more xs at x within))
+    ∙ all
+
+-- ---- what a finished index says
+
+abbrev with_file : Key → ℕ → Key
+with_file key file = record { file = file; number = key.number }
+
+-- an index that has noted all definitions of a unit gives the definition of each key
+pub looked_up-definition : (index : BTreeMap ℕ (Bor TypeTree)) (unit : Unit) → ((n : ℕ) → body_in index n ≡ noted_all (main_key n) None (definitions_of unit))
+    → (key : Key) → looked_up index key ≡ definition_of unit key
+looked_up-definition index unit says key = ⊎_elim
+    (λ main. ap (λ (b : Bool). cond b (body_in index key.number) None) main ∙ says key.number ∙ noted-first (main_key key.number) (definitions_of unit)
+    ∙ ap (λ (k : Key). first_of k (definitions_of unit)) (whole main) ∙ sym (ap (λ (b : Bool). cond b (first_of key (definitions_of unit)) None) main))
+    (λ other. ap (λ (b : Bool). cond b (body_in index key.number) None) other ∙ sym (ap (λ (b : Bool). cond b (first_of key (definitions_of unit)) None) other))
+    (which (key.file == 0))
+  where
+    whole : (key.file == 0) ≡ true → main_key key.number ≡ key
+    whole main = ap (λ (z : ℕ). with_file key z) (sym (eqb-true key.file 0 main))
+
+-- what follows from what a call did follows where it did it
+pub on_ok : {A E P Q : Type 0} (r : Result A E) → OnOk r P → (P → Q) → OnOk r Q
+on_ok (Ok x) p f = f p
+on_ok (Err e) p f = tt

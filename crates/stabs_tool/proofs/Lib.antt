@@ -1,0 +1,14 @@
+pub mod SearchLemmas
+pub mod KeyLemmas
+pub mod KeyListLemmas
+pub mod ListingLemmas
+pub mod SurfaceLemmas
+pub mod WorkListLemmas
+pub mod IndexLemmas
+pub mod CarryLemmas
+pub mod Refusals
+pub mod ListedLemmas
+pub mod Decides
+pub mod OneLaws
+pub mod RunLemmas
+pub mod Examples

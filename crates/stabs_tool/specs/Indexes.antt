@@ -1,0 +1,43 @@
+-- An index of a unit's definitions: for each number of file 0 the body of its definition, as it grows by one definition after
+-- another. This project's own.
+use Rattle.std.specs.Prelude.{◌≡◌, ℕ, not, ◌&&◌, ◌==◌, if◌then◌else◌, List, [], ◌∷◌, Option, Some, None}
+use Rattle.std.specs.Option.{option_copied}
+use Rattle.std.specs.Ordering.{nat_cmp}
+use Rattle.std.specs.BTreeMap.{BTreeMap, get}
+use Rattle.std.specs.Borrow.{Bor}
+use Rattle.stab_grammar.specs.declared.tree.Key.{Key}
+use Rattle.stab_grammar.specs.declared.tree.TypeTree.{TypeTree}
+use Rattle.stab_grammar.specs.Definitions.{Definition, is_cross}
+use Rattle.stab_grammar.specs.Surface.{same_key}
+use Rattle.stabs_tool.specs.declared.types.unit.Unit.{Unit}
+use Rattle.stabs_tool.specs.Units.{definition_of}
+
+-- a later definition counts where there was none, or where a cross reference gives way to what is none
+abbrev pub better : Option TypeTree → TypeTree → Option TypeTree
+better None body = Some body
+better (Some old) body = if is_cross old && not (is_cross body) then Some body else Some old
+
+-- what is known of a key, with one definition more
+abbrev pub noted : Key → Option TypeTree → Definition → Option TypeTree
+noted key known d = if same_key key d.key then better known d.body else known
+
+-- and with more definitions, one after another
+abbrev pub noted_all : Key → Option TypeTree → List Definition → Option TypeTree
+noted_all key known [] = known
+noted_all key known (d ∷ ds) = noted_all key (noted key known d) ds
+
+-- the key of a number of file 0
+abbrev pub main_key : ℕ → Key
+main_key number = record { file = 0; number = number }
+
+-- what the index has for a number of file 0
+abbrev pub body_in : BTreeMap ℕ (Bor TypeTree) → ℕ → Option TypeTree
+body_in index number = option_copied (get nat_cmp index number)
+
+-- what the index has for a key
+abbrev pub looked_up : BTreeMap ℕ (Bor TypeTree) → Key → Option TypeTree
+looked_up index key = if key.file == 0 then body_in index key.number else None
+
+-- the index has the definition of every key of the unit
+abbrev pub IsIndex : Unit → BTreeMap ℕ (Bor TypeTree) → Type 0
+IsIndex unit index = (key : Key) → looked_up index key ≡ definition_of unit key

@@ -1,0 +1,9 @@
+pub mod Units
+pub mod Searches
+pub mod Listings
+pub mod KeyLists
+pub mod Indexes
+pub mod SmallFiles
+pub mod Words
+pub mod Replies
+pub mod Promise

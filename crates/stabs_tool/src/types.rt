@@ -1,0 +1,15 @@
+//! Types of one unit: where a type number is defined and named, which tag has a name, and all types that
+//! one leads to.
+
+mod definitions;
+mod index;
+mod key_set;
+mod listing;
+mod unit;
+
+pub use definitions::{definition, find_tag, type_name};
+pub use listing::{KeyList, listing, one_listing};
+pub use unit::Unit;
+
+#[cfg(test)]
+mod tests;
