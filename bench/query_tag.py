@@ -1,0 +1,104 @@
+#!/usr/bin/env python3
+"""Times `query FILE tag 0 NAME` for the last of many stabs, beside `objdump -G` on as many.
+
+Usage: bench/query_tag.py [PROGRAM]
+
+PROGRAM is the built program, crates/stabs_tool/out/stabs_tool by default. Two files are made in a folder that is
+removed again: one of 100,000 entries, and one of 16 MB. Each is queried five times, and the least time counts;
+memory is the greatest resident size. objdump reads an ELF object with the same stab strings, and is skipped where
+it or the assembler is missing.
+"""
+import os
+import resource
+import shutil
+import struct
+import subprocess
+import sys
+import tempfile
+import time
+
+HERE = os.path.dirname(os.path.dirname(os.path.abspath(__file__)))
+RUNS = 5
+
+
+def strings(count):
+    """A type symbol each: a structure of two fields whose pointer leads to the structure itself."""
+    yield "int:t(0,1)=r(0,1);-2147483648;2147483647;"
+    for i in range(1, count):
+        yield f"tag{i}:T(0,{2 * i})=s8val:(0,1),0,32;next:(0,{2 * i + 1})=*(0,{2 * i}),32,32;;"
+
+
+def small_object(count):
+    entries, table = [struct.pack("<IBBHI", 4, 0x64, 0, 0, 0)], [b"a.c\0"]
+    at = 8
+    for text in strings(count):
+        entries.append(struct.pack("<IBBHI", at, 0x80, 0, 0, 0))
+        table.append(text.encode() + b"\0")
+        at += len(text) + 1
+    entries, table = b"".join(entries), b"".join(table)
+    header = struct.pack("<8I", 0x0107, 0, 0, 0, len(entries), 0, 0, 0)
+    return header + entries + struct.pack("<I", 4 + len(table)) + table
+
+
+def timed(words, output):
+    """The least seconds of several runs, and the greatest resident size in bytes."""
+    least, most = None, 0
+    for _ in range(RUNS):
+        with open(output, "wb") as out:
+            start = time.monotonic()
+            child = subprocess.Popen(words, stdout=out)
+            _, status, usage = os.wait4(child.pid, 0)
+            seconds = time.monotonic() - start
+        if status:
+            sys.exit(f"{words} ended with {status}")
+        least = seconds if least is None else min(least, seconds)
+        most = max(most, usage.ru_maxrss * 1024)
+    return least, most
+
+
+def with_objdump(folder, count):
+    if not shutil.which("objdump") or not shutil.which("as"):
+        return None
+    source, target = f"{folder}/peer.s", f"{folder}/peer.o"
+    with open(source, "w") as out:
+        out.write('.stabs "a.c",100,0,0,0\n')
+        for text in strings(count):
+            out.write(f'.stabs "{text}",128,0,0,0\n')
+    subprocess.run(["as", "-o", target, source], check=True)
+    return timed(["objdump", "-G", target], f"{folder}/peer.out")
+
+
+def measure(program, folder, label, count):
+    path = f"{folder}/many.o"
+    with open(path, "wb") as out:
+        out.write(small_object(count))
+    size = os.path.getsize(path)
+    words = [program, "query", path, "tag", "0", f"tag{count - 1}"]
+    seconds, memory = timed(words, f"{folder}/reply")
+    with open(f"{folder}/reply") as reply:
+        first = reply.readline().strip()
+    if first != "3":
+        sys.exit(f"the reply has {first} keys, not 3")
+    print(f"{label}: {count} stabs, {size} bytes")
+    print(f"  query: {seconds:.3f} s, {count / seconds:,.0f} entries a second, {memory / 1e6:.1f} MB, {memory / size:.1f} times the file")
+    peer = with_objdump(folder, count)
+    if peer is None:
+        print("  objdump -G: not there, skipped")
+    else:
+        print(f"  objdump -G: {peer[0]:.3f} s, {count / peer[0]:,.0f} stabs a second, {peer[1] / 1e6:.1f} MB")
+        print(f"  query takes {seconds / peer[0]:.2f} times as long")
+
+
+def main():
+    program = os.path.abspath(sys.argv[1] if len(sys.argv) > 1 else f"{HERE}/crates/stabs_tool/out/stabs_tool")
+    folder = tempfile.mkdtemp()
+    try:
+        measure(program, folder, "100,000 entries", 100_000)
+        # a string and its entry take 82 to 90 bytes
+        measure(program, folder, "16 MB", 178_000)
+    finally:
+        shutil.rmtree(folder)
+
+
+if __name__ == "__main__":
+    main()
