@@ -1,4 +1,5 @@
 pub mod BytesLemmas
+pub mod CheckLemmas
 mod Examples
 pub mod FieldLemmas
 pub mod NumberLemmas

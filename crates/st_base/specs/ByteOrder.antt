@@ -7,3 +7,8 @@ use Rattle.st_base.specs.declared.order.Order.TheVariants.{Little, Big}
 abbrev pub is_big : Order → Bool
 is_big Little = false
 is_big Big = true
+
+-- the order whose test this is
+abbrev pub order_of : Bool → Order
+order_of false = Little
+order_of true = Big

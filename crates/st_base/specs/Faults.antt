@@ -1,5 +1,5 @@
 -- Checks of an input that are made in order, and the fault of the first that the input does not pass.
-use Rattle.std.specs.Prelude.{ℕ, Bool, if◌then◌else◌, List, [], ◌∷◌, Option, Some, None}
+use Rattle.std.specs.Prelude.{ℕ, Bool, if◌then◌else◌, List, [], ◌∷◌, Option, Some, None, Result, Ok, Err}
 use Rattle.st_base.specs.declared.fault.Fault.{Fault}
 
 -- the fault with this number and place that needs no more to tell where it is
@@ -19,3 +19,12 @@ check holds number place = record { holds = holds; fault = fault_at number place
 abbrev pub first_fault : List Check → Option Fault
 first_fault [] = None
 first_fault (c ∷ checks) = if c.holds then first_fault checks else Some c.fault
+
+-- the fault, or the value where there is none
+abbrev pub unless : {A : Type 0} → Option Fault → A → Result A Fault
+unless None value = Ok value
+unless (Some fault) value = Err fault
+
+-- what a call answers that makes the checks in order: the fault of the first that does not hold, else the value
+abbrev pub checked : {A : Type 0} → List Check → A → Result A Fault
+checked checks value = unless (first_fault checks) value

@@ -38,6 +38,8 @@ pub const OUTSIDE: u16 = 23;
 pub const OVERFLOW: u16 = 25;
 /// The kind of an entry is not accepted. The place is the entry's number.
 pub const KIND: u16 = 30;
+/// A size passes its limit. The place is the limit.
+pub const TOO_LARGE: u16 = 94;
 /// The file is lawful, but this program does not read files of its kind yet. Place and within are 0.
 pub const UNBUILT: u16 = 200;
 

@@ -18,7 +18,8 @@ mod text;
 pub use boxed::Boxed;
 pub use fault::{
     ADDRESS, FLAG, Fault, INSIDE, KIND, LENGTH, LENGTH8, MACHINE, MAGIC, Memory, NO_END, OUTSIDE,
-    OVERFLOW, PAST, RELOC_BYTES, Refused, SEGMENT, SYMBOL_BYTES, TRAILING, TRUNCATED, UNBUILT,
+    OVERFLOW, PAST, RELOC_BYTES, Refused, SEGMENT, SYMBOL_BYTES, TOO_LARGE, TRAILING, TRUNCATED,
+    UNBUILT,
 };
 pub use layout::{Layout, field_laws, number_laws, one_spelling};
 pub use list::List;
