@@ -1,0 +1,60 @@
+-- The string table of a list of distinct names: what its bytes are, where each name stands, and how a name is added.
+-- After a.out(5). That each distinct name stands once, in order of first use, is this project's own.
+use Rattle.std.specs.Prelude.{◌≡◌, ◌≢◌, ℕ, ◌+◌, ◌<◌, Bool, if◌then◌else◌, List, [], ◌∷◌, ◌++◌, length, fold, All, AllPairs, bytes_eq}
+use Rattle.std.specs.List.{list_any, before_first}
+use Rattle.std.specs.Int.{bytes_high_first, bytes_low_first}
+use Rattle.st_base.specs.declared.fault.Refused.{Refused}
+use Rattle.st_base.specs.declared.fault.Refused.TheVariants as refused
+use Rattle.st_base.specs.declared.fault.TheConstants.{TOO_LARGE}
+use Rattle.strtab.specs.declared.table.TheConstants.{TABLE_LIMIT}
+use Rattle.strtab.specs.StringTable.{fault_at, HasNoZero}
+
+-- the names, each with the zero byte that ends it
+abbrev pub spelled : List (List ℕ) → List ℕ
+spelled [] = []
+spelled (name ∷ names) = name ++ (0 ∷ spelled names)
+
+-- the size of the table of these names, its length word included
+abbrev pub size_of : List (List ℕ) → ℕ
+size_of names = 4 + length (spelled names)
+
+-- the four bytes that spell a number
+abbrev pub word_of : Bool → ℕ → List ℕ
+word_of big n = if big then bytes_high_first 4 n else bytes_low_first 0 4 n
+
+-- the table of these names: its length word, then the names in order
+abbrev pub table_of : Bool → List (List ℕ) → List ℕ
+table_of big names = word_of big (size_of names) ++ spelled names
+
+-- the names before the first that equals this one: all of them where none does
+abbrev pub names_before : List (List ℕ) → List ℕ → List (List ℕ)
+names_before names name = before_first (bytes_eq name) names
+
+-- the offset of a name in the table: behind the word and the names before it; 0 for the empty name
+abbrev pub offset_of : List (List ℕ) → List ℕ → ℕ
+offset_of names [] = 0
+offset_of names (b ∷ bytes) = size_of (names_before names (b ∷ bytes))
+
+-- the names after one is used: a name that is there and the empty name change nothing, and a new name goes last
+abbrev pub added : List (List ℕ) → List ℕ → List (List ℕ)
+added names [] = names
+added names (b ∷ bytes) = if list_any (bytes_eq (b ∷ bytes)) names then names else names ++ (b ∷ bytes) ∷ []
+
+-- the distinct names of a list of uses, in order of first use
+abbrev pub first_uses : List (List ℕ) → List (List ℕ)
+first_uses uses = fold added [] uses
+
+-- a name that a table can hold: it is not empty, and no zero byte ends it early
+pub record IsName (name : List ℕ) : Type 0 where
+  pub filled : name ≢ []
+  pub whole : HasNoZero name
+
+-- names that a table can hold, no two of them equal
+pub record AreNames (names : List (List ℕ)) : Type 0 where
+  pub each : All IsName names
+  pub distinct : AllPairs (λ first later. first ≢ later) names
+
+-- what a call answers whose table would have this size: out of memory, or too large, which comes only past the limit
+abbrev pub RefusesSize : ℕ → Refused → Type 0
+RefusesSize size refused.Memory = Unit {0}
+RefusesSize size (refused.At why) = (TABLE_LIMIT < size) × (why ≡ fault_at TOO_LARGE TABLE_LIMIT)
