@@ -1,6 +1,6 @@
 use std::alloc::{AllocError, AllocFailed};
 
-// The numbers of faults. Each line gives the cause, then the place and within of the fault; where within is not told it is 0.
+// The numbers of all faults of these tools, also of those to come, so that one number never has two meanings. Each line gives the cause, then the place and within of the fault; where within is not told it is 0.
 
 /// In neither byte order is the low half of the file's first word the magic 0x0107. Place 0.
 pub const MAGIC: u16 = 1;
@@ -34,12 +34,77 @@ pub const SEGMENT: u16 = 22;
 /// The field of a relocation passes its segment's end. The place is the object's number, within the relocation's, text first;
 /// for one segment by itself the place is the relocation's address.
 pub const OUTSIDE: u16 = 23;
+/// The external symbol of a relocation is no entry, a stab, or of kind 0. The place is the object's number, within the
+/// relocation's, text first.
+pub const SYMBOL: u16 = 24;
 /// The sum of a relocation doesn't fit its field. Place and within are as for `OUTSIDE`.
 pub const OVERFLOW: u16 = 25;
 /// The kind of an entry is not accepted. The place is the entry's number.
 pub const KIND: u16 = 30;
+/// From this byte on no stab string goes on. The place is the entry's number and within the place in its string; for a string
+/// by itself the place is that in the string.
+pub const BYTE: u16 = 40;
+/// A stab string ends before what it spells. Place and within are as for `BYTE`.
+pub const END: u16 = 41;
+/// A type that begins here is more than 100 deep. Place and within are as for `BYTE`.
+pub const DEEP: u16 = 42;
+/// A stab stands outside every unit. The place is the entry's number.
+pub const NO_UNIT: u16 = 50;
+/// A stab string that ends in `\` is not continued by the next entry. The place is the number of the entry that ends so.
+pub const CONTINUATION: u16 = 51;
+/// A header range is not closed. The place is the number of the entry that begins it.
+pub const OPEN_HEADER: u16 = 52;
+/// A header range is closed that is not open. The place is the entry's number.
+pub const CLOSED_HEADER: u16 = 53;
+/// The brackets of blocks do not match. The place is the entry's number; for a block that is not closed, of the entry that
+/// begins it.
+pub const BRACKETS: u16 = 54;
+/// A mark of an excluded header stands in an object. The place is the entry's number.
+pub const EXCLUDED: u16 = 55;
+/// A header passes the limit of headers. The place is the number of its entry.
+pub const HEADERS: u16 = 57;
+/// A stab string that is continued is longer than 1,048,576 bytes. The place is the number of its first entry.
+pub const LONG: u16 = 58;
+/// A query is none. The place is that of the first word that is wrong, missing or too many.
+pub const QUERY: u16 = 60;
+/// A line of an assembly source is of no form. The place is the line's number.
+pub const LINE_SYNTAX: u16 = 70;
+/// A value of an assembly source is out of its range. The place is the line's number.
+pub const LINE_RANGE: u16 = 71;
+/// A name of an assembly source is not defined. The place is the line's number.
+pub const LINE_UNDEFINED: u16 = 72;
+/// A name of an assembly source is defined twice. The place is the line's number.
+pub const LINE_TWICE: u16 = 73;
+/// A value of an assembly source mixes what does not go together. The place is the line's number.
+pub const LINE_MIXED: u16 = 74;
+/// A C source goes on as no declaration does. The place is the line's number, within the file's.
+pub const C_SYNTAX: u16 = 80;
+/// A name of a C source is not declared. Place and within are as for `C_SYNTAX`.
+pub const C_UNKNOWN: u16 = 81;
+/// A name of a C source is declared again. Place and within are as for `C_SYNTAX`.
+pub const C_AGAIN: u16 = 82;
+/// A C source includes itself. Place and within are as for `C_SYNTAX`.
+pub const C_CYCLE: u16 = 83;
+/// A type of a C source is not complete where it must be. Place and within are as for `C_SYNTAX`.
+pub const C_INCOMPLETE: u16 = 84;
+/// A size of a C source is too large. Place and within are as for `C_SYNTAX`.
+pub const C_LARGE: u16 = 85;
+/// An object's byte order is not that of the first object. The place is the object's number.
+pub const ORDER_MIX: u16 = 90;
+/// An object's machine word is not that of the first object. The place is the object's number.
+pub const MACHINE_MIX: u16 = 91;
+/// A name is nowhere defined. The place is the object's number, within the entry's.
+pub const UNDEFINED: u16 = 92;
+/// A name is defined a second time. The place is the object's number, within the entry's.
+pub const TWICE: u16 = 93;
 /// A size passes its limit. The place is the limit.
 pub const TOO_LARGE: u16 = 94;
+/// There are no objects to link.
+pub const EMPTY: u16 = 95;
+/// A mark of an excluded header stands for no header. The place is the entry's number.
+pub const NO_HEADER: u16 = 100;
+/// A mark of an excluded header stands for more than one header. The place is the entry's number.
+pub const AMBIGUOUS: u16 = 101;
 /// The file is lawful, but this program does not read files of its kind yet. Place and within are 0.
 pub const UNBUILT: u16 = 200;
 
