@@ -4,7 +4,8 @@
 Usage: bench/query_tag.py [PROGRAM]
 
 PROGRAM is the built program, crates/stabs_tool/out/stabs_tool by default. Two files are made in a folder that is
-removed again: one of 100,000 entries, and one of 16 MB. Each is queried five times, and the least time counts;
+removed again, in a process of their own, so that what making them takes is no part of what is measured: one of 100,000
+entries, and one of 16 MB. Each is queried five times, and the least time counts;
 memory is the greatest resident size. objdump reads an ELF object with the same stab strings, and is skipped where
 it or the assembler is missing.
 """
@@ -56,22 +57,41 @@ def timed(words, output):
     return least, most
 
 
+def in_a_process(call, *words):
+    """Runs a call in a process of its own."""
+    child = os.fork()
+    if child == 0:
+        call(*words)
+        os._exit(0)
+    _, status = os.waitpid(child, 0)
+    if status:
+        sys.exit(f"{call.__name__} ended with {status}")
+
+
+def write_object(path, count):
+    with open(path, "wb") as out:
+        out.write(small_object(count))
+
+
+def write_peer(path, count):
+    with open(path, "w") as out:
+        out.write('.stabs "a.c",100,0,0,0\n')
+        for text in strings(count):
+            out.write(f'.stabs "{text}",128,0,0,0\n')
+
+
 def with_objdump(folder, count):
     if not shutil.which("objdump") or not shutil.which("as"):
         return None
     source, target = f"{folder}/peer.s", f"{folder}/peer.o"
-    with open(source, "w") as out:
-        out.write('.stabs "a.c",100,0,0,0\n')
-        for text in strings(count):
-            out.write(f'.stabs "{text}",128,0,0,0\n')
+    in_a_process(write_peer, source, count)
     subprocess.run(["as", "-o", target, source], check=True)
     return timed(["objdump", "-G", target], f"{folder}/peer.out")
 
 
 def measure(program, folder, label, count):
     path = f"{folder}/many.o"
-    with open(path, "wb") as out:
-        out.write(small_object(count))
+    in_a_process(write_object, path, count)
     size = os.path.getsize(path)
     words = [program, "query", path, "tag", "0", f"tag{count - 1}"]
     seconds, memory = timed(words, f"{folder}/reply")

@@ -16,7 +16,6 @@ use Rattle.stab_grammar.specs.declared.tree.TypeTree.TheOpen.{TypeTree-F, Field-
 use Rattle.stab_grammar.specs.declared.tree.TypeTree.TheFolds.{fold-TypeTree, fold-Field, fold-roll-TypeTree, fold-roll-Field}
 use Rattle.stab_grammar.specs.Spelling.{print_of, print_symbol}
 use Rattle.stab_grammar.specs.Shape.{ok}
-use Rattle.stab_grammar.specs.Small.{is_small}
 use Rattle.stab_grammar.specs.Surface.{same_key, surface_of, placed}
 
 -- ---- what a fold makes of one level
@@ -114,9 +113,6 @@ ok-whole = simp levels
 -- the digit would be read as one of the size
 ok-digit_first : ok (structure (codes "1val")) ≡ false
 ok-digit_first = simp levels
-
-is_small-node : is_small node ≡ true
-is_small-node = simp levels
 
 -- ---- the listing
 

@@ -9,3 +9,11 @@ mod Types
 mod Symbols
 mod Whole
 mod Examples
+mod Levels
+mod AnyDepth
+mod WithFiles
+mod PutBack
+mod Spread
+mod Renamed
+mod Marks
+mod ShapeLaws

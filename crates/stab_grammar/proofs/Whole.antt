@@ -1,18 +1,19 @@
 -- What reading a whole string answers.
-use Rattle.std.proofs.Common.{◌≡◌, ℕ, ◌⊎◌, List, length, Result, Ok, Err}
+use Rattle.std.proofs.Common.{◌≡◌, ℕ, ◌≤◌, ◌⊎◌, List, length, Result, Ok, Err, refl, sym, ap, ◌∙◌, arith}
 use Rattle.std.specs.Prelude.{IfOk}
+use Rattle.st_base.specs.declared.fault.Fault.{Fault}
+use Rattle.readers.specs.declared.stop.Stop.{Stop}
 use Rattle.readers.specs.declared.stop.Refusal.{Refusal}
 use Rattle.readers.specs.declared.fault.TextFault.{TextFault}
 use Rattle.readers.specs.declared.fault.Unread.{Unread}
 use Rattle.readers.specs.declared.fault.Unread.TheVariants as unread
 use Rattle.readers.specs.Spelling.{Spells}
 use Rattle.readers.specs.Readers.{Fails}
-use Rattle.readers.specs.Faults.{place_of, told, LeavesWithin}
+use Rattle.readers.specs.Faults.{place_of, placed, told, LeavesWithin}
 use Rattle.readers.proofs.First as firsts
 use Rattle.readers.proofs.Answers as answers
 use Rattle.stab_grammar.specs.declared.tree.Symbol.{Symbol}
-use Rattle.stab_grammar.specs.Small.{IsSpelling}
-use Rattle.stab_grammar.specs.StringFaults.{symbol_form, HasStringFault, IsFirstStringFault}
+use Rattle.stab_grammar.specs.StringFaults.{IsSpelling, symbol_form, HasStringFault, IsFirstStringFault, fault_of, IsStringFault}
 use Rattle.stab_grammar.specs.Grammar.{symbol_at, whole_symbol}
 use Rattle.stab_grammar.proofs.Fields.{ends_type}
 use Rattle.stab_grammar.proofs.Symbols.{symbol_laws}
@@ -76,9 +77,45 @@ pub one_place : (text : List ℕ) (f g : TextFault) → HasStringFault text f �
 one_place text f g h k e = firsts.one_place 100 symbol_at symbol_form ends_type symbol_laws text f g h k e
 
 -- without a fault there is a symbol
-pub some : (text : List ℕ) → ((f : TextFault) → HasStringFault text f → ⊥) → (s : Symbol) × IsSpelling s text
-some text fine = let k = answers.some 100 symbol_at symbol_form ends_type symbol_laws text fine in (k.0, to_spelling k.0 text k.1)
+pub some : (text : List ℕ) → ((f : Fault) → IsStringFault text f → ⊥) → (s : Symbol) × IsSpelling s text
+unfolding whole_symbol
+some text fine = by_answer (whole_symbol text) refl
+  where
+    by_answer : (v : Result Symbol Stop) → whole_symbol text ≡ v → (s : Symbol) × IsSpelling s text
+    by_answer (Ok s) e = (s, to_spelling s text (firsts.found 100 symbol_at symbol_form ends_type symbol_laws text s e))
+    by_answer (Err d) e =
+        let g = firsts.first 100 symbol_at symbol_form ends_type symbol_laws text d e in
+        absurd (fine (fault_of (placed (length text) d)) (record { first = placed (length text) d; is_first = g; told = refl }))
 
 -- and only one
 pub one : (text : List ℕ) (s t : Symbol) → IsSpelling s text → IsSpelling t text → s ≡ t
 one text s t h k = answers.one 100 symbol_at symbol_form ends_type symbol_laws text s t (from_spelling s text h) (from_spelling t text k)
+
+-- two numbers of which neither is greater are one
+both_least : (p q : ℕ) → p ≤ q → q ≤ p → p ≡ q
+both_least p q h k = omega (arith, h, k)
+
+-- the first fault is one
+one_first : (text : List ℕ) (f g : TextFault) → IsFirstStringFault text f → IsFirstStringFault text g → f ≡ g
+one_first text f g h k = one_place text f g h.0 k.0 (both_least (place_of f) (place_of g) (h.1 g k.0) (k.1 f h.0))
+
+-- so the fault that is told is one
+pub one_fault : (text : List ℕ) (f g : Fault) → IsStringFault text f → IsStringFault text g → f ≡ g
+one_fault text f g h k = h.told ∙ ap fault_of (one_first text h.first k.first h.is_first k.is_first) ∙ sym k.told
+
+-- nothing is read where reading stops
+clash : (v : Result Symbol Stop) (s : Symbol) (d : Stop) → v ≡ Ok s → v ≡ Err d → ⊥
+clash v s d e f = absurd cc
+
+-- a spelling has no fault
+pub not_both : (text : List ℕ) (s : Symbol) (f : Fault) → IsSpelling s text → IsStringFault text f → ⊥
+unfolding whole_symbol
+not_both text s f is h =
+    let k = firsts.answered 100 symbol_at symbol_form ends_type symbol_laws text h.first h.is_first in
+    clash (whole_symbol text) s k.0 (firsts.only 100 symbol_at symbol_form ends_type symbol_laws text s is.shaped is.depth is.spelled) k.1
+
+-- ---- from the first fault to the fault that is told
+
+-- what is told of the first fault is told of the string
+pub told_fault : (text : List ℕ) (g : TextFault) (h f : Fault) → IsFirstStringFault text g → h ≡ fault_of g → h ≡ f → IsStringFault text f
+told_fault text g h f is e same = record { first = g; is_first = is; told = sym same ∙ e }

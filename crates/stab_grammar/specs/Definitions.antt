@@ -1,12 +1,12 @@
 -- The definitions in a type: each `number=type` in it, outermost first and from left to right. After "The stabs debug format",
 -- where a type number is defined where it is first used.
-use Rattle.std.specs.Prelude.{ℕ, Bool, true, false, List, [], ◌∷◌, ◌++◌, map, flat_map, Option, Some, None}
+use Rattle.std.specs.Prelude.{Bool, true, false, List, [], ◌∷◌, ◌++◌, map, flat_map, Option, Some, None}
 use Rattle.stab_grammar.specs.declared.tree.Key.{Key}
 use Rattle.stab_grammar.specs.declared.tree.Field.{Field, roll-Field}
 use Rattle.stab_grammar.specs.declared.tree.TypeTree.{TypeTree}
 use Rattle.stab_grammar.specs.declared.tree.TypeTree.TheVariants.{Ref, Def, Pointer, Function, Const, Volatile, Range, Array, Struct, Union, Enum, Cross, Sized, Builtin, Real}
 use Rattle.stab_grammar.specs.declared.tree.TypeTree.TheOpen.{TypeTree-F, Field-F}
-use Rattle.stab_grammar.specs.declared.tree.TypeTree.TheFolds.{fold-TypeTree, fold-Field}
+use Rattle.stab_grammar.specs.declared.tree.TypeTree.TheFolds.{fold-TypeTree}
 use Rattle.stab_grammar.specs.Keys.{key_of}
 
 -- a key and the type that is its definition

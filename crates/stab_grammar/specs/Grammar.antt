@@ -18,7 +18,7 @@ use Rattle.stab_grammar.specs.declared.tree.Descriptor.{Descriptor}
 use Rattle.stab_grammar.specs.declared.tree.Descriptor.TheVariants as descriptors
 use Rattle.stab_grammar.specs.declared.tree.Symbol.{Symbol}
 use Rattle.stab_grammar.specs.Shape.{greatest_number, greatest_file, refused, refused_item}
-use Rattle.stab_grammar.specs.Small.{greatest_depth}
+use Rattle.stab_grammar.specs.StringFaults.{greatest_depth}
 
 -- ---- the parts of a type that hold no type
 

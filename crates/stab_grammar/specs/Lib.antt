@@ -5,6 +5,6 @@ pub mod Keys
 pub mod Surface
 pub mod Definitions
 pub mod Printing
-pub mod Small
-pub mod Grammar
 pub mod StringFaults
+pub mod Grammar
+pub mod Files

@@ -1,15 +1,31 @@
--- The faults of a string that should spell a symbol, and the first of them. A spelling is that of a symbol of any depth here;
--- `Byte` is the first place from which the string begins none, `End` its length where it only begins one, and `Deep` the place of
--- a type that is too deep. This project's own.
-use Rattle.std.specs.Prelude.{List, ℕ}
+-- The symbol that a string spells, the faults of a string that should spell one, and the first of them. For faults a spelling is
+-- that of a symbol of any depth; `Byte` is the first place from which the string begins none, `End` its length where it only
+-- begins one, and `Deep` the place of a type that is too deep. This project's own.
+use Rattle.std.specs.Prelude.{◌≡◌, ℕ, List}
+use Rattle.st_base.specs.declared.fault.Fault.{Fault}
+use Rattle.st_base.specs.declared.fault.TheConstants.{BYTE, END, DEEP}
 use Rattle.readers.specs.declared.fault.TextFault.{TextFault}
-use Rattle.readers.specs.Spelling.{Form}
+use Rattle.readers.specs.declared.fault.TextFault.TheVariants.{Byte, End, Deep}
+use Rattle.readers.specs.Spelling.{Form, Within}
 use Rattle.readers.specs.Faults.{HasFault, IsFirstFault}
 use Rattle.stab_grammar.specs.declared.tree.Symbol.{Symbol}
 use Rattle.stab_grammar.specs.Spelling.{print_symbol}
 use Rattle.stab_grammar.specs.Depth.{depths_symbol}
 use Rattle.stab_grammar.specs.Shape.{ShapedSymbol}
-use Rattle.stab_grammar.specs.Small.{greatest_depth}
+
+-- ---- the symbol that a string spells
+
+-- the most types inside one another
+abbrev pub greatest_depth : ℕ
+greatest_depth = 100
+
+-- the text spells the symbol, whose types are at most 100 deep
+pub record IsSpelling (s : Symbol) (text : List ℕ) : Type 0 where
+  pub shaped : ShapedSymbol s
+  pub depth : Within greatest_depth (depths_symbol s)
+  pub spelled : text ≡ print_symbol s
+
+-- ---- the faults of a string
 
 -- symbols: how they are spelled, where types begin, and which have a spelling
 abbrev pub symbol_form : Form Symbol
@@ -22,3 +38,17 @@ HasStringFault = HasFault greatest_depth symbol_form
 -- it is the one with the least place
 abbrev pub IsFirstStringFault : List ℕ → TextFault → Type 0
 IsFirstStringFault = IsFirstFault greatest_depth symbol_form
+
+-- ---- the fault that is told
+
+-- number 40, 41 or 42, the place in the string, and 0 within
+abbrev pub fault_of : TextFault → Fault
+fault_of (Byte p) = record { number = BYTE; place = p; within = 0 }
+fault_of (End p) = record { number = END; place = p; within = 0 }
+fault_of (Deep p) = record { number = DEEP; place = p; within = 0 }
+
+-- the first fault of the string is told so
+pub record IsStringFault (text : List ℕ) (fault : Fault) : Type 0 where
+  pub first : TextFault
+  pub is_first : IsFirstStringFault text first
+  pub told : fault ≡ fault_of first

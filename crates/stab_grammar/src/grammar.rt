@@ -5,6 +5,7 @@ ghost use Rattle.readers.specs.Words as words;
 ghost use Rattle.stab_grammar.specs.Grammar as spec;
 ghost use Rattle.stab_grammar.specs.Shape as shape;
 
+use crate::descriptors::descriptors;
 use crate::tree::{Choice, Descriptor, Field, Num, Numeral, Symbol, Tag, TypeTree};
 use readers::{
     Refusal, Stop, bad, byte_at, digits_at, is_digit, name_at, number_and, number_at, text_of,
@@ -517,22 +518,7 @@ fn stack(alloc: Global, bytes: &[u8]) -> Result<((Descriptor, TypeTree), &[u8]),
 fn described_at(alloc: Global, bytes: &[u8]) -> Result<((Descriptor, TypeTree), &[u8]), Refusal>
     ensures { Gives (λ x. (x.0, x.1.now)) result (spec.described_at (spec.type_at 100) bytes.now) }
 {
-    match bytes {
-        [] => Err(Refusal::At(Stop::End)),
-        [b'f', rest @ ..] => described(alloc, Descriptor::StaticFun, rest),
-        [b'F', rest @ ..] => described(alloc, Descriptor::GlobalFun, rest),
-        [b'G', rest @ ..] => described(alloc, Descriptor::Global, rest),
-        [b'S', rest @ ..] => described(alloc, Descriptor::FileStatic, rest),
-        [b'V', rest @ ..] => described(alloc, Descriptor::ProcStatic, rest),
-        [b'p', rest @ ..] => described(alloc, Descriptor::Param, rest),
-        [b'P', rest @ ..] => described(alloc, Descriptor::RegParam, rest),
-        [b'r', rest @ ..] => described(alloc, Descriptor::Register, rest),
-        [b'a', rest @ ..] => described(alloc, Descriptor::RefRegParam, rest),
-        [b'v', rest @ ..] => described(alloc, Descriptor::RefParam, rest),
-        [b't', rest @ ..] => described(alloc, Descriptor::Typedef, rest),
-        [b'T', rest @ ..] => tagged(alloc, rest),
-        _ => stack(alloc, bytes),
-    }
+    descriptors!(reading of alloc, bytes)
 }
 
 /// `name:`, the descriptor, the type.

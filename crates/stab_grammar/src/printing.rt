@@ -3,6 +3,7 @@ ghost use Rattle.std.specs.Option.{option_copied};
 ghost use Rattle.stab_grammar.specs.Spelling as spec;
 ghost use Rattle.stab_grammar.specs.Printing.{Grows, number_text, defined_text, type_text, field_text, fields_text, choices_text};
 
+use crate::descriptors::descriptors;
 use crate::placed::put_place;
 use crate::tree::{Choice, Descriptor, Field, Key, Num, Numeral, Symbol, Tag, TypeTree};
 use itoa::Buffer;
@@ -24,7 +25,7 @@ pub(crate) fn put_bytes(bytes: &[u8], out: &mut Text) -> Result<(), Memory>
     out.extend(bytes)
 }
 
-fn put_name_and(name: &Text, end: u8, out: &mut Text) -> Result<(), Memory>
+pub(crate) fn put_name_and(name: &Text, end: u8, out: &mut Text) -> Result<(), Memory>
     ensures ok { OnOk result (out.new ≡ out.old ++ (name.now ++ end ∷ [])) }
     ensures grows { Grows out.old out.new }
 {
@@ -32,7 +33,7 @@ fn put_name_and(name: &Text, end: u8, out: &mut Text) -> Result<(), Memory>
     put_byte(end, out)
 }
 
-fn put_number(number: u32, out: &mut Text) -> Result<(), Memory>
+pub(crate) fn put_number(number: u32, out: &mut Text) -> Result<(), Memory>
     ensures ok { OnOk result (out.new ≡ out.old ++ decimal number) }
     ensures grows { Grows out.old out.new }
 {
@@ -40,7 +41,7 @@ fn put_number(number: u32, out: &mut Text) -> Result<(), Memory>
     put_bytes(buffer.format(number).as_bytes(), out)
 }
 
-fn put_number_and(number: u32, end: u8, out: &mut Text) -> Result<(), Memory>
+pub(crate) fn put_number_and(number: u32, end: u8, out: &mut Text) -> Result<(), Memory>
     ensures ok { OnOk result (out.new ≡ out.old ++ (decimal number ++ end ∷ [])) }
     ensures grows { Grows out.old out.new }
 {
@@ -73,7 +74,7 @@ fn put_number_of(num: &Num, keys: Option<&List<Key>>, out: &mut Text) -> Result<
     }
 }
 
-fn put_numeral_and(numeral: &Numeral, end: u8, out: &mut Text) -> Result<(), Memory>
+pub(crate) fn put_numeral_and(numeral: &Numeral, end: u8, out: &mut Text) -> Result<(), Memory>
     ensures ok { OnOk result (out.new ≡ out.old ++ (spec.numeral numeral.now ++ end ∷ [])) }
     ensures grows { Grows out.old out.new }
 {
@@ -297,22 +298,7 @@ pub fn print_type(tree: &TypeTree, out: &mut Text) -> Result<(), Memory>
 pub fn letters_of(descriptor: Descriptor) -> &'static [u8]
     ensures { result.now ≡ spec.letters descriptor }
 {
-    match descriptor {
-        Descriptor::Stack => b"",
-        Descriptor::StaticFun => b"f",
-        Descriptor::GlobalFun => b"F",
-        Descriptor::Global => b"G",
-        Descriptor::FileStatic => b"S",
-        Descriptor::ProcStatic => b"V",
-        Descriptor::Param => b"p",
-        Descriptor::RegParam => b"P",
-        Descriptor::Register => b"r",
-        Descriptor::RefRegParam => b"a",
-        Descriptor::RefParam => b"v",
-        Descriptor::Typedef => b"t",
-        Descriptor::Tag => b"T",
-        Descriptor::TagTypedef => b"Tt",
-    }
+    descriptors!(letters of descriptor)
 }
 
 fn put_symbol(symbol: &Symbol, out: &mut Text) -> Result<(), Memory>

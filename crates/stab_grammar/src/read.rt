@@ -1,17 +1,20 @@
-ghost use Rattle.std.specs.Prelude.{◌≡◌, ◌⊎◌, List, ℕ, IfOk, Ok, Err};
+ghost use Rattle.std.specs.Prelude.{◌≡◌, ◌⊎◌, ◌+◌, List, ℕ, IfOk, Ok, Err};
+ghost use Rattle.st_base.specs.declared.fault.Fault.{Fault};
 ghost use Rattle.readers.specs.declared.fault.TextFault.{TextFault};
 ghost use Rattle.readers.specs.Faults.{place_of};
 ghost use Rattle.stab_grammar.specs.declared.tree.Symbol.{Symbol};
-ghost use Rattle.stab_grammar.specs.Small.{IsSpelling};
-ghost use Rattle.stab_grammar.specs.StringFaults.{HasStringFault, IsFirstStringFault};
+ghost use Rattle.stab_grammar.specs.StringFaults as spec;
+ghost use Rattle.stab_grammar.specs.StringFaults.{IsSpelling, HasStringFault, IsFirstStringFault, IsStringFault};
 
 use crate::grammar::whole_symbol;
 use crate::tree::Symbol;
-use readers::{Unread, told};
+use readers::{TextFault, Unread, told};
+use st_base::{BYTE, DEEP, END, Fault, Refused, Steps};
 use std::alloc::Global;
+use std::sync::ledger::Ledger;
 
-/// The symbol that the string spells, or its first fault.
-pub fn read_symbol(alloc: Global, text: &[u8]) -> Result<Symbol, Unread>
+// The symbol that the string spells, or its first fault.
+fn read_symbol(alloc: Global, text: &[u8]) -> Result<Symbol, Unread>
     // What is read is spelled so.
     ensures found { IfOk result (λ s. IsSpelling s text.now) }
     // What is spelled so is read, unless memory runs out.
@@ -27,13 +30,59 @@ pub fn read_symbol(alloc: Global, text: &[u8]) -> Result<Symbol, Unread>
     }
 }
 
+// The fault with its number.
+fn fault_of(fault: TextFault) -> Fault
+    ensures { result ≡ spec.fault_of fault }
+{
+    let (number, place) = match fault {
+        TextFault::Byte(place) => (BYTE, place),
+        TextFault::End(place) => (END, place),
+        TextFault::Deep(place) => (DEEP, place),
+    };
+    Fault {
+        number,
+        place: place as u64,
+        within: 0,
+    }
+}
+
+/// The symbol that a stab string spells: `name:`, a descriptor, a type.
+///
+/// A number has no leading zero and is at most 2147483647, a file at most 65535; the bound of a range, `J` or digits with or
+/// without `-`, and the value of a choice have at most 40 digits, which are kept as they stand; types are at most 100 deep, the
+/// outermost included. The string may have any length. Any other string is refused with its first fault, the place in the
+/// string counted from 0 and within 0: `BYTE` is told at the first byte with which the string begins no spelling, `END` at its
+/// length where it only begins one, `DEEP` where a type begins that is too deep. Takes memory for the tree; out of memory is its
+/// own answer. After "The stabs debug format", the C parts.
+pub fn parse<L: Ledger>(alloc: Global, text: &[u8], steps: &mut Steps<L>) -> Result<Symbol, Refused>
+    // One call is one step.
+    ensures ticks { steps.new ≡ steps.old + 1 }
+    // What is read is spelled so.
+    ensures found { IfOk result (λ s. IsSpelling s text.now) }
+    // What is spelled so is read, unless memory runs out.
+    ensures only { (s : Symbol) → IsSpelling s text.now → (result ≡ Ok s) ⊎ (result ≡ Err Refused.Memory) }
+    // A fault that is told is the first.
+    ensures fault { (f : Fault) → result ≡ Err (Refused.At f) → IsStringFault text.now f }
+    // The first fault is told, unless memory runs out.
+    ensures first { (f : Fault) → IsStringFault text.now f → (result ≡ Err (Refused.At f)) ⊎ (result ≡ Err Refused.Memory) }
+{
+    steps.tick();
+    match read_symbol(alloc, text) {
+        Ok(symbol) => Ok(symbol),
+        Err(Unread::Memory) => Err(Refused::Memory),
+        Err(Unread::At(fault)) => Err(Refused::At(fault_of(fault))),
+    }
+}
+
 /// Two faults of a string never have one place.
 pub fn one_place()
     ensures { (text : List ℕ) (f g : TextFault) → HasStringFault text f → HasStringFault text g → place_of f ≡ place_of g → f ≡ g }
 {}
 
-/// A string without a fault is the spelling of exactly one symbol.
+/// A string either spells exactly one symbol, or has exactly one fault that is told.
 pub fn one_symbol()
-    ensures some { (text : List ℕ) → ((f : TextFault) → HasStringFault text f → ⊥) → (s : Symbol) × IsSpelling s text }
+    ensures some { (text : List ℕ) → ((f : Fault) → IsStringFault text f → ⊥) → (s : Symbol) × IsSpelling s text }
     ensures one { (text : List ℕ) (s t : Symbol) → IsSpelling s text → IsSpelling t text → s ≡ t }
+    ensures one_fault { (text : List ℕ) (f g : Fault) → IsStringFault text f → IsStringFault text g → f ≡ g }
+    ensures not_both { (text : List ℕ) (s : Symbol) (f : Fault) → IsSpelling s text → IsStringFault text f → ⊥ }
 {}

@@ -2,19 +2,21 @@
 use Rattle.std.proofs.Common.{◌≡◌, ◌≢◌, ℕ, zero, suc, inl, inr, List, length, Option, Some, None, Result, Ok, Err, refl, sym, ap, subst, ◌∙◌}
 use Rattle.std.specs.Prelude.{IfOk}
 use Rattle.std.proofs.lemmas.Bool.{lt-ltb, le-ltb}
+use Rattle.st_base.specs.Number.{IsBytes}
 use Rattle.st_base.specs.declared.fault.Fault.{Fault}
-use Rattle.st_base.specs.declared.fault.Refused.{Refused}
 use Rattle.outside.specs.Causes.{Contents, Rose, Loads, last_after}
 use Rattle.outside.specs.declared.files.Loaded.{Loaded}
 use Rattle.outside.specs.declared.files.Loaded.TheVariants as loaded
-use Rattle.stab_grammar.specs.Small.{unbuilt}
+use Rattle.aout_object.specs.Objects.{ObjectSpells}
+use Rattle.aout_object.specs.Objects.{Contents as Object}
+use Rattle.aout_object.specs.Reading.{FileFault}
 use Rattle.stabs_tool.specs.declared.types.unit.Unit.{Unit}
 use Rattle.stabs_tool.specs.declared.reply.Reply.{Reply}
 use Rattle.stabs_tool.specs.declared.words.Command.{Command}
 use Rattle.stabs_tool.specs.declared.words.Command.TheVariants.{TagNamed, Wrong}
-use Rattle.stabs_tool.specs.SmallFiles.{IsSmallFile}
+use Rattle.stabs_tool.specs.Readings.{strings_of, AreUnit, AreRefused}
 use Rattle.stabs_tool.specs.Replies.{usage, absent, read_fault, limit, refused, nothing, most_of_file}
-use Rattle.stabs_tool.specs.Promise.{Decided, AsDefined, Says, RepliesOnTag, RepliesInUnit, RepliesOnBytes, word}
+use Rattle.stabs_tool.specs.Promise.{Decided, AsDefined, Says, IsEnough, RepliesOnTag, RepliesInUnit, RepliesOnObject, RepliesOnBytes, word}
 
 -- ---- statuses
 
@@ -42,9 +44,9 @@ status_nothing : nothing.status ≡ 0
 unfolding nothing
 status_nothing = refl
 
-status_refused : (name : List ℕ) → (refused name unbuilt).status ≡ 3
+status_refused : (name : List ℕ) (f : Fault) → (refused name f).status ≡ 3
 unfolding refused
-status_refused name = refl
+status_refused name f = refl
 
 status_limit : limit.status ≡ 9
 unfolding limit
@@ -73,10 +75,15 @@ in_unit_done : (unit : Unit) (number : ℕ) (tag : List ℕ) (r : Reply) → Rep
 in_unit_done unit zero tag r h = on_tag_done unit tag r h
 in_unit_done unit (suc number) tag r h = ap (λ (z : Reply). z.status) h ∙ status_nothing
 
+-- a refusal has the status 3
+refused_plain : (name : List ℕ) (f : Fault) (r : Reply) → r ≡ refused name f → IsPlain r
+refused_plain name f r h = turned_down r (ap (λ (z : Reply). z.status) h ∙ status_refused name f)
+
 -- a reply on bytes is plain
 bytes_plain : (name : List ℕ) (number : ℕ) (tag bytes : List ℕ) (r : Reply) → RepliesOnBytes name number tag bytes r → IsPlain r
-bytes_plain name number tag bytes r (inl h) = done r (in_unit_done h.0 number tag r h.2)
-bytes_plain name number tag bytes r (inr h) = turned_down r (ap (λ (z : Reply). z.status) h.1 ∙ status_refused name)
+bytes_plain name number tag bytes r (are, inl (o, spells, inl h)) = done r (in_unit_done h.0 number tag r h.2)
+bytes_plain name number tag bytes r (are, inl (o, spells, inr h)) = refused_plain name h.0 r h.2
+bytes_plain name number tag bytes r (are, inr h) = refused_plain name h.0 r h.2
 
 -- what is said of the bytes that a load answered is said of the load
 pub bytes_said : {E : Type 0} (name : List ℕ) (number : ℕ) (tag bytes text : List ℕ) (l : Loaded) (res : Result Reply E)
@@ -190,11 +197,36 @@ module _ (words : List (List ℕ)) (number : ℕ) where
       (subst (λ (z : List ℕ). Loads held before now z most_of_file l) (same ∙ is) h) (subst (λ (z : List ℕ). last' ≡ last_after held last z l) (same ∙ is) k)
       (subst (λ (z : List ℕ). Says name number z l r) sought (subst (λ (z : List ℕ). Says z number t l r) is s))
 
--- bytes that are refused are those of no small file, and the fault is the one of this stage
-pub by_refusal : {E : Type 0} (name : List ℕ) (number : ℕ) (tag bytes read shown : List ℕ) (v : Result Unit Refused) (f : Fault) (res : Result Reply E)
-    → v ≡ Err (Refused.At f) → ((g : Fault) → v ≡ Err (Refused.At g) → (g ≡ unbuilt) × ((unit : Unit) → IsSmallFile read unit → ⊥))
-    → read ≡ bytes → shown ≡ name → IfOk res (λ r. r ≡ refused shown f) → IfOk res (RepliesOnBytes name number tag bytes)
-by_refusal name number tag bytes read shown v f (Err e) is why same text said = tt
-by_refusal name number tag bytes read shown v f (Ok r) is why same text said =
-    let k = why f is in
-    inr ((λ unit small. k.1 unit (subst (λ (z : List ℕ). IsSmallFile z unit) (sym same) small), said ∙ ap (λ (z : List ℕ). refused z f) text ∙ ap (refused name) k.0))
+-- ---- what is said of an object, and of the bytes that spell it
+
+-- a reply in what is kept of a unit is one in the unit
+pub in_kept : (unit kept : Unit) (number : ℕ) (tag : List ℕ) (r : Reply) → IsEnough unit kept tag → RepliesInUnit kept number tag r → RepliesInUnit unit number tag r
+in_kept unit kept zero tag r enough h = enough r h
+in_kept unit kept (suc other) tag r enough h = h
+
+-- the reply in what was kept of the object's unit
+pub by_kept : {E : Type 0} (name : List ℕ) (number : ℕ) (tag asked told : List ℕ) (o : Object) (kept : Unit) (res : Result Reply E)
+    → ((unit : Unit) × AreUnit (strings_of o) unit × IsEnough unit kept asked) → asked ≡ tag → told ≡ tag
+    → IfOk res (RepliesInUnit kept number told) → IfOk res (RepliesOnObject name number tag o)
+by_kept name number tag asked told o kept (Err e) is same also said = tt
+by_kept name number tag asked told o kept (Ok r) is same also said =
+    inl ((is.0, is.1, in_kept is.0 kept number tag r (subst (IsEnough is.0 kept) same is.2) (subst (λ (z : List ℕ). RepliesInUnit kept number z r) also said)))
+
+-- the refusal of an object
+pub by_refusal : {E : Type 0} (name : List ℕ) (number : ℕ) (tag shown : List ℕ) (o : Object) (f : Fault) (res : Result Reply E)
+    → AreRefused (strings_of o) f → shown ≡ name → IfOk res (λ r. r ≡ refused shown f) → IfOk res (RepliesOnObject name number tag o)
+by_refusal name number tag shown o f (Err e) is text said = tt
+by_refusal name number tag shown o f (Ok r) is text said = inr ((f, is, said ∙ ap (λ (z : List ℕ). refused z f) text))
+
+-- the reply on the object that the bytes spell
+pub by_object : {E : Type 0} (name : List ℕ) (number : ℕ) (tag bytes read : List ℕ) (o : Object) (res : Result Reply E)
+    → IsBytes read → read ≡ bytes → ObjectSpells o read → IfOk res (RepliesOnObject name number tag o) → IfOk res (RepliesOnBytes name number tag bytes)
+by_object name number tag bytes read o (Err e) are same spells said = tt
+by_object name number tag bytes read o (Ok r) are same spells said = (subst IsBytes same are, inl ((o, subst (ObjectSpells o) same spells, said)))
+
+-- the refusal of the bytes
+pub by_fault : {E : Type 0} (name : List ℕ) (number : ℕ) (tag bytes read shown : List ℕ) (f : Fault) (res : Result Reply E)
+    → IsBytes read → read ≡ bytes → FileFault read f → shown ≡ name → IfOk res (λ r. r ≡ refused shown f) → IfOk res (RepliesOnBytes name number tag bytes)
+by_fault name number tag bytes read shown f (Err e) are same is text said = tt
+by_fault name number tag bytes read shown f (Ok r) are same is text said =
+    (subst IsBytes same are, inr ((f, subst (λ (z : List ℕ). FileFault z f) same is, said ∙ ap (λ (z : List ℕ). refused z f) text)))

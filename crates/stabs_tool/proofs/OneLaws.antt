@@ -1,97 +1,131 @@
--- No more than one unit of a file, and one outcome of the words: each definition on the way has at most one value.
-use Rattle.std.proofs.Common.{◌≡◌, ℕ, zero, suc, inl, inr, Bool, true, false, false, List, [], ◌∷◌, length, Option, Some, None, refl, sym, ap, subst, ◌∙◌}
+-- One outcome of the words: each definition on the way has at most one value.
+use Rattle.std.proofs.Common.{◌≡◌, ℕ, zero, suc, inl, inr, Bool, true, false, List, [], ◌∷◌, length, Option, Some, None, refl, sym, ap, subst, ◌∙◌}
 use Rattle.std.specs.Prelude.{nat_lt}
 use Rattle.std.specs.Bool.{MatchBool}
 use Rattle.std.specs.FinMap.{get}
 use Rattle.outside.specs.Causes.{Contents}
-use Rattle.nlist_codec.specs.declared.entry.Entry.{Entry}
+use Rattle.st_base.specs.Number.{IsBytes}
+use Rattle.st_base.specs.declared.fault.Fault.{Fault}
+use Rattle.aout_object.specs.Objects.{ObjectSpells}
+use Rattle.aout_object.specs.Objects.{Contents as Object}
+use Rattle.aout_object.specs.Reading.{FileFault}
 use Rattle.stab_grammar.specs.declared.tree.Key.{Key}
 use Rattle.stab_grammar.specs.declared.tree.Symbol.{Symbol}
-use Rattle.stab_grammar.specs.Small.{IsSpelling}
+use Rattle.stab_grammar.specs.StringFaults.{IsSpelling, IsStringFault}
+use Rattle.stabs_tool.specs.declared.stabs.Carried.{Carried}
+use Rattle.stabs_tool.specs.declared.stabs.Strings.{Strings}
 use Rattle.stabs_tool.specs.declared.types.unit.Unit.{Unit}
 use Rattle.stabs_tool.specs.declared.reply.Reply.{Reply}
 use Rattle.stabs_tool.specs.declared.words.Command.{Command}
 use Rattle.stabs_tool.specs.declared.words.Command.TheVariants.{TagNamed, Wrong}
 use Rattle.stabs_tool.specs.Units.{tag_of}
 use Rattle.stabs_tool.specs.Listings.{IsListing}
-use Rattle.stabs_tool.specs.SmallFiles.{Carries, CarryAll, AreUnit, IsSmallFile, table_of, entries_of, entry_bytes, name_in}
+use Rattle.stabs_tool.specs.Readings.{strings_of, SpellAll, HasFirstFault, AreUnit, AreRefused, at_entry}
 use Rattle.stabs_tool.specs.Words.{command_of}
-use Rattle.stabs_tool.specs.Replies.{most_of_file, listed}
-use Rattle.stabs_tool.specs.Promise.{RepliesOnTag, RepliesInUnit, RepliesOnBytes, RepliesOnFile, Means, IsOutcome, word}
+use Rattle.stabs_tool.specs.Replies.{most_of_file, listed, refused}
+use Rattle.stabs_tool.specs.Promise.{RepliesOnTag, RepliesInUnit, RepliesOnObject, RepliesOnBytes, RepliesOnFile, Means, IsOutcome, word}
 
 -- what an option holds
 held_same : {A : Type 0} (o : Option A) (x y : A) → o ≡ Some x → o ≡ Some y → x ≡ y
 held_same o x y p q = cc
 
-module _ (one_symbol : (text : List ℕ) (s t : Symbol) → IsSpelling s text → IsSpelling t text → s ≡ t) where
-  -- an entry carries one symbol
-  one_carried : (table : List ℕ) (e : Entry) (s t : Symbol) → Carries table e s → Carries table e t → s ≡ t
-  one_carried table e s t p q =
-      let same : q.text ≡ p.text = held_same (name_in table e.strx) q.text p.text q.named p.named in
-      one_symbol p.text s t p.spelled.spelling (subst (IsSpelling t) same q.spelled.spelling)
+-- ---- one unit, or one fault
 
-  all_carried : (table : List ℕ) (es : List Entry) (ss ts : List Symbol) → CarryAll table es ss → CarryAll table es ts → ss ≡ ts
-  all_carried table [] [] [] p q = refl
-  all_carried table [] [] (t ∷ ts) p q = absurd q
-  all_carried table [] (s ∷ ss) ts p q = absurd p
-  all_carried table (e ∷ es) [] ts p q = absurd p
-  all_carried table (e ∷ es) (s ∷ ss) [] p q = absurd q
-  all_carried table (e ∷ es) (s ∷ ss) (t ∷ ts) p q =
-      ap (λ (z : Symbol). z ∷ ss) (one_carried table e s t p.0 q.0) ∙ ap (λ (z : List Symbol). t ∷ z) (all_carried table es ss ts p.1 q.1)
+module _ (one_symbol : (text : List ℕ) (s t : Symbol) → IsSpelling s text → IsSpelling t text → s ≡ t)
+    (one_fault : (text : List ℕ) (f g : Fault) → IsStringFault text f → IsStringFault text g → f ≡ g)
+    (not_both : (text : List ℕ) (s : Symbol) (f : Fault) → IsSpelling s text → IsStringFault text f → ⊥) where
+  -- strings spell one list of symbols
+  pub spelled_once : (cs : List Carried) (ss ts : List Symbol) → SpellAll cs ss → SpellAll cs ts → ss ≡ ts
+  spelled_once [] [] [] p q = refl
+  spelled_once [] [] (t ∷ ts) p q = absurd q
+  spelled_once [] (s ∷ ss) ts p q = absurd p
+  spelled_once (c ∷ cs) [] ts p q = absurd p
+  spelled_once (c ∷ cs) (s ∷ ss) [] p q = absurd q
+  spelled_once (c ∷ cs) (s ∷ ss) (t ∷ ts) p q =
+      ap (λ (z : Symbol). z ∷ ss) (one_symbol c.text s t p.0 q.0) ∙ ap (λ (z : List Symbol). t ∷ z) (spelled_once cs ss ts p.1 q.1)
 
-  one_of_entries : (table : List ℕ) (es : List Entry) (unit other : Unit) → AreUnit table es unit → AreUnit table es other → unit ≡ other
-  one_of_entries table [] unit other p q = absurd p
-  one_of_entries table (e ∷ es) unit other p q =
-      let names : unit.name ≡ other.name = held_same (name_in table e.strx) unit.name other.name p.0.named q.0.named in
-      let symbols : unit.symbols ≡ other.symbols = all_carried table es unit.symbols other.symbols p.1 q.1 in
-      unit_of unit.name other.name unit.symbols other.symbols names symbols
-    where
-      unit_of : (n m : List ℕ) (ss ts : List Symbol) → n ≡ m → ss ≡ ts → let u : Unit = record { name = n; symbols = ss } in u ≡ record { name = m; symbols = ts }
-      unit_of n m ss ts p q =
-          let first = ap (λ (z : List ℕ). let u : Unit = record { name = z; symbols = ss } in u) p in
-          let second = ap (λ (z : List Symbol). let u : Unit = record { name = m; symbols = z } in u) q in
-          first ∙ second
+  -- or have one first fault
+  fault_once : (cs : List Carried) (f g : Fault) → HasFirstFault cs f → HasFirstFault cs g → f ≡ g
+  fault_once [] f g p q = absurd p
+  fault_once (c ∷ cs) f g (inl p) (inl q) = p.2 ∙ ap (at_entry c.place) (one_fault c.text p.0 q.0 p.1 q.1) ∙ sym q.2
+  fault_once (c ∷ cs) f g (inl p) (inr q) = absurd (not_both c.text q.0 p.0 q.1 p.1)
+  fault_once (c ∷ cs) f g (inr p) (inl q) = absurd (not_both c.text p.0 q.0 p.1 q.1)
+  fault_once (c ∷ cs) f g (inr p) (inr q) = fault_once cs f g p.2 q.2
 
-  -- a file has one unit
-  pub unit_once : (file : List ℕ) (unit other : Unit) → IsSmallFile file unit → IsSmallFile file other → unit ≡ other
-  unit_once file unit other p q = one_of_entries (table_of file) (entries_of (entry_bytes file)) unit other p.1 q.1
+  -- and never both
+  spelled_or_fault : (cs : List Carried) (ss : List Symbol) (f : Fault) → SpellAll cs ss → HasFirstFault cs f → ⊥
+  spelled_or_fault [] ss f p q = q
+  spelled_or_fault (c ∷ cs) [] f p q = p
+  spelled_or_fault (c ∷ cs) (s ∷ ss) f p (inl q) = not_both c.text s q.0 p.0 q.1
+  spelled_or_fault (c ∷ cs) (s ∷ ss) f p (inr q) = spelled_or_fault cs ss f p.1 q.2
 
-module _ (one_unit : (file : List ℕ) (unit other : Unit) → IsSmallFile file unit → IsSmallFile file other → unit ≡ other)
-    (one_listing : (unit : Unit) (start : Key) (keys others : List Key) → IsListing unit start keys → IsListing unit start others → keys ≡ others) where
-  on_tag_once : (unit : Unit) (tag : List ℕ) (r other : Reply) → RepliesOnTag unit tag r → RepliesOnTag unit tag other → r ≡ other
-  on_tag_once unit tag r other (inl p) (inl q) = p.1 ∙ sym q.1
-  on_tag_once unit tag r other (inl p) (inr q) = let k : None ≡ Some q.0 = sym p.0 ∙ q.2 in absurd cc
-  on_tag_once unit tag r other (inr p) (inl q) = let k : None ≡ Some p.0 = sym q.0 ∙ p.2 in absurd cc
-  on_tag_once unit tag r other (inr p) (inr q) =
-      let start : q.0 ≡ p.0 = held_same (tag_of unit tag) q.0 p.0 q.2 p.2 in
-      let keys : p.1 ≡ q.1 = one_listing unit p.0 p.1 q.1 p.3 (subst (λ (k : Key). IsListing unit k q.1) start q.3) in
-      p.4 ∙ ap (listed unit) keys ∙ sym q.4
+  unit_of : (n m : List ℕ) (ss ts : List Symbol) → n ≡ m → ss ≡ ts → let u : Unit = record { name = n; symbols = ss } in u ≡ record { name = m; symbols = ts }
+  unit_of n m ss ts p q =
+      let first = ap (λ (z : List ℕ). let u : Unit = record { name = z; symbols = ss } in u) p in
+      let second = ap (λ (z : List Symbol). let u : Unit = record { name = m; symbols = z } in u) q in
+      first ∙ second
 
-  in_unit_once : (unit : Unit) (number : ℕ) (tag : List ℕ) (r other : Reply) → RepliesInUnit unit number tag r → RepliesInUnit unit number tag other → r ≡ other
-  in_unit_once unit zero tag r other p q = on_tag_once unit tag r other p q
-  in_unit_once unit (suc number) tag r other p q = p ∙ sym q
+  unit_once : (o : Option Strings) (unit other : Unit) → AreUnit o unit → AreUnit o other → unit ≡ other
+  unit_once None unit other p q = absurd p
+  unit_once (Some strings) unit other p q =
+      unit_of unit.name other.name unit.symbols other.symbols (p.0 ∙ sym q.0) (spelled_once strings.carried unit.symbols other.symbols p.1 q.1)
 
-  on_bytes_once : (name : List ℕ) (number : ℕ) (tag bytes : List ℕ) (r other : Reply) → RepliesOnBytes name number tag bytes r → RepliesOnBytes name number tag bytes other → r ≡ other
-  on_bytes_once name number tag bytes r other (inl p) (inl q) =
-      let same : q.0 ≡ p.0 = one_unit bytes q.0 p.0 q.1 p.1 in
-      in_unit_once p.0 number tag r other p.2 (subst (λ (u : Unit). RepliesInUnit u number tag other) same q.2)
-  on_bytes_once name number tag bytes r other (inl p) (inr q) = absurd (q.0 p.0 p.1)
-  on_bytes_once name number tag bytes r other (inr p) (inl q) = absurd (p.0 q.0 q.1)
-  on_bytes_once name number tag bytes r other (inr p) (inr q) = p.1 ∙ sym q.1
+  refused_once : (o : Option Strings) (f g : Fault) → AreRefused o f → AreRefused o g → f ≡ g
+  refused_once None f g p q = p ∙ sym q
+  refused_once (Some strings) f g p q = fault_once strings.carried f g p q
 
-  on_content_once : (name : List ℕ) (number : ℕ) (tag bytes : List ℕ) (long : Bool) (a r other : Reply)
-      → MatchBool long (r ≡ a) (RepliesOnBytes name number tag bytes r) → MatchBool long (other ≡ a) (RepliesOnBytes name number tag bytes other) → r ≡ other
-  on_content_once name number tag bytes true a r other p q = p ∙ sym q
-  on_content_once name number tag bytes false a r other p q = on_bytes_once name number tag bytes r other p q
+  unit_or_fault : (o : Option Strings) (unit : Unit) (f : Fault) → AreUnit o unit → AreRefused o f → ⊥
+  unit_or_fault None unit f p q = p
+  unit_or_fault (Some strings) unit f p q = spelled_or_fault strings.carried unit.symbols f p.1 q
 
-  on_file_once : (name : List ℕ) (number : ℕ) (tag : List ℕ) (held : Option (List ℕ)) (r other : Reply) → RepliesOnFile name number tag held r → RepliesOnFile name number tag held other → r ≡ other
-  on_file_once name number tag None r other p q = p ∙ sym q
-  on_file_once name number tag (Some bytes) r other p q = on_content_once name number tag bytes (nat_lt most_of_file (length bytes)) _ r other p q
+  -- ---- one reply
 
-  means_once : (asked : Command) (words : List (List ℕ)) (m : Contents) (r other : Reply) → Means asked words m r → Means asked words m other → r ≡ other
-  means_once (Wrong at) words m r other p q = p ∙ sym q
-  means_once (TagNamed number) words m r other p q = on_file_once (word words 1) number (word words 4) (get m (word words 1)) r other p q
+  module _ (one_object : (first other : Object) (bytes : List ℕ) → IsBytes bytes → ObjectSpells first bytes → ObjectSpells other bytes → first ≡ other)
+      (one_refusal : (bytes : List ℕ) (first other : Fault) → FileFault bytes first → FileFault bytes other → first ≡ other)
+      (object_or_refusal : (bytes : List ℕ) (o : Object) (f : Fault) → IsBytes bytes → ObjectSpells o bytes → FileFault bytes f → ⊥)
+      (one_listing : (unit : Unit) (start : Key) (keys others : List Key) → IsListing unit start keys → IsListing unit start others → keys ≡ others) where
+    on_tag_once : (unit : Unit) (tag : List ℕ) (r other : Reply) → RepliesOnTag unit tag r → RepliesOnTag unit tag other → r ≡ other
+    on_tag_once unit tag r other (inl p) (inl q) = p.1 ∙ sym q.1
+    on_tag_once unit tag r other (inl p) (inr q) = let k : None ≡ Some q.0 = sym p.0 ∙ q.2 in absurd cc
+    on_tag_once unit tag r other (inr p) (inl q) = let k : None ≡ Some p.0 = sym q.0 ∙ p.2 in absurd cc
+    on_tag_once unit tag r other (inr p) (inr q) =
+        let start : q.0 ≡ p.0 = held_same (tag_of unit tag) q.0 p.0 q.2 p.2 in
+        let keys : p.1 ≡ q.1 = one_listing unit p.0 p.1 q.1 p.3 (subst (λ (k : Key). IsListing unit k q.1) start q.3) in
+        p.4 ∙ ap (listed unit) keys ∙ sym q.4
 
-  -- words have one outcome
-  pub outcome_once : (words : List (List ℕ)) (m : Contents) (r other : Reply) → IsOutcome words m r → IsOutcome words m other → r ≡ other
-  outcome_once words m r other p q = means_once (command_of words) words m r other p q
+    in_unit_once : (unit : Unit) (number : ℕ) (tag : List ℕ) (r other : Reply) → RepliesInUnit unit number tag r → RepliesInUnit unit number tag other → r ≡ other
+    in_unit_once unit zero tag r other p q = on_tag_once unit tag r other p q
+    in_unit_once unit (suc number) tag r other p q = p ∙ sym q
+
+    on_object_once : (name : List ℕ) (number : ℕ) (tag : List ℕ) (o : Object) (r other : Reply) → RepliesOnObject name number tag o r → RepliesOnObject name number tag o other → r ≡ other
+    on_object_once name number tag o r other (inl p) (inl q) =
+        let same : q.0 ≡ p.0 = unit_once (strings_of o) q.0 p.0 q.1 p.1 in
+        in_unit_once p.0 number tag r other p.2 (subst (λ (u : Unit). RepliesInUnit u number tag other) same q.2)
+    on_object_once name number tag o r other (inl p) (inr q) = absurd (unit_or_fault (strings_of o) p.0 q.0 p.1 q.1)
+    on_object_once name number tag o r other (inr p) (inl q) = absurd (unit_or_fault (strings_of o) q.0 p.0 q.1 p.1)
+    on_object_once name number tag o r other (inr p) (inr q) = p.2 ∙ ap (refused name) (refused_once (strings_of o) p.0 q.0 p.1 q.1) ∙ sym q.2
+
+    on_bytes_once : (name : List ℕ) (number : ℕ) (tag bytes : List ℕ) (r other : Reply) → RepliesOnBytes name number tag bytes r → RepliesOnBytes name number tag bytes other → r ≡ other
+    on_bytes_once name number tag bytes r other (are, inl p) (also, inl q) =
+        let same : q.0 ≡ p.0 = one_object q.0 p.0 bytes are q.1 p.1 in
+        on_object_once name number tag p.0 r other p.2 (subst (λ (o : Object). RepliesOnObject name number tag o other) same q.2)
+    on_bytes_once name number tag bytes r other (are, inl p) (also, inr q) = absurd (object_or_refusal bytes p.0 q.0 are p.1 q.1)
+    on_bytes_once name number tag bytes r other (are, inr p) (also, inl q) = absurd (object_or_refusal bytes q.0 p.0 are q.1 p.1)
+    on_bytes_once name number tag bytes r other (are, inr p) (also, inr q) = p.2 ∙ ap (refused name) (one_refusal bytes p.0 q.0 p.1 q.1) ∙ sym q.2
+
+    on_content_once : (name : List ℕ) (number : ℕ) (tag bytes : List ℕ) (long : Bool) (a r other : Reply)
+        → MatchBool long (r ≡ a) (RepliesOnBytes name number tag bytes r) → MatchBool long (other ≡ a) (RepliesOnBytes name number tag bytes other) → r ≡ other
+    on_content_once name number tag bytes true a r other p q = p ∙ sym q
+    on_content_once name number tag bytes false a r other p q = on_bytes_once name number tag bytes r other p q
+
+    on_file_once : (name : List ℕ) (number : ℕ) (tag : List ℕ) (held : Option (List ℕ)) (r other : Reply) → RepliesOnFile name number tag held r → RepliesOnFile name number tag held other → r ≡ other
+    on_file_once name number tag None r other p q = p ∙ sym q
+    on_file_once name number tag (Some bytes) r other p q = on_content_once name number tag bytes (nat_lt most_of_file (length bytes)) _ r other p q
+
+    means_once : (asked : Command) (words : List (List ℕ)) (m : Contents) (r other : Reply) → Means asked words m r → Means asked words m other → r ≡ other
+    means_once (Wrong at) words m r other p q = p ∙ sym q
+    means_once (TagNamed number) words m r other p q = on_file_once (word words 1) number (word words 4) (get m (word words 1)) r other p q
+
+    -- words have one outcome
+    pub outcome_once : (words : List (List ℕ)) (m : Contents) (r other : Reply) → IsOutcome words m r → IsOutcome words m other → r ≡ other
+    outcome_once words m r other p q = means_once (command_of words) words m r other p q

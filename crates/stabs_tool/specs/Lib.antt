@@ -3,7 +3,10 @@ pub mod Searches
 pub mod Listings
 pub mod KeyLists
 pub mod Indexes
-pub mod SmallFiles
+pub mod Readings
+pub mod Reach
+pub mod Reaching
+pub mod Surveys
 pub mod Words
 pub mod Replies
 pub mod Promise

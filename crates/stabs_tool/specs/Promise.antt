@@ -3,18 +3,22 @@
 use Rattle.std.specs.Prelude.{◌≡◌, ◌≢◌, ℕ, zero, suc, List, [], ◌++◌, length, Option, Some, None, ◌⊎◌, slice_index_or, nat_lt, ⊤}
 use Rattle.std.specs.Bool.{MatchBool}
 use Rattle.std.specs.FinMap.{get}
+use Rattle.st_base.specs.Number.{IsBytes}
+use Rattle.st_base.specs.declared.fault.Fault.{Fault}
 use Rattle.outside.specs.Causes.{Contents, Rose}
 use Rattle.outside.specs.declared.files.Loaded.{Loaded}
 use Rattle.outside.specs.declared.files.Loaded.TheVariants as loaded
 use Rattle.stab_grammar.specs.declared.tree.Key.{Key}
-use Rattle.stab_grammar.specs.Small.{unbuilt}
+use Rattle.aout_object.specs.Objects.{ObjectSpells}
+use Rattle.aout_object.specs.Objects.{Contents as Object}
+use Rattle.aout_object.specs.Reading.{FileFault}
 use Rattle.stabs_tool.specs.declared.types.unit.Unit.{Unit}
 use Rattle.stabs_tool.specs.declared.reply.Reply.{Reply}
 use Rattle.stabs_tool.specs.declared.words.Command.{Command}
 use Rattle.stabs_tool.specs.declared.words.Command.TheVariants.{TagNamed, Wrong}
 use Rattle.stabs_tool.specs.Units.{tag_of}
 use Rattle.stabs_tool.specs.Listings.{IsListing}
-use Rattle.stabs_tool.specs.SmallFiles.{IsSmallFile}
+use Rattle.stabs_tool.specs.Readings.{strings_of, AreUnit, AreRefused}
 use Rattle.stabs_tool.specs.Words.{command_of}
 use Rattle.stabs_tool.specs.Replies.{usage, absent, read_fault, limit, refused, nothing, listed, most_of_file, READ_FAULT, WRITE_FAULT, NO_MEMORY, ABSENT, USAGE}
 
@@ -30,10 +34,19 @@ abbrev pub RepliesInUnit : Unit → ℕ → List ℕ → Reply → Type 0
 RepliesInUnit unit zero tag r = RepliesOnTag unit tag r
 RepliesInUnit unit (suc other) tag r = r ≡ nothing
 
--- the reply on the bytes of a file: that of its unit, or its refusal where it is not small
+-- what is kept of a unit is enough for the reply on a tag
+abbrev pub IsEnough : Unit → Unit → List ℕ → Type 0
+IsEnough unit kept tag = (r : Reply) → RepliesOnTag kept tag r → RepliesOnTag unit tag r
+
+-- the reply on an object: that of its unit, or its refusal
+abbrev pub RepliesOnObject : List ℕ → ℕ → List ℕ → Object → Reply → Type 0
+RepliesOnObject name number tag o r = ((unit : Unit) × AreUnit (strings_of o) unit × RepliesInUnit unit number tag r)
+    ⊎ ((f : Fault) × AreRefused (strings_of o) f × (r ≡ refused name f))
+
+-- the reply on the bytes of a file: that of the object that they spell, or the refusal of the file
 abbrev pub RepliesOnBytes : List ℕ → ℕ → List ℕ → List ℕ → Reply → Type 0
-RepliesOnBytes name number tag bytes r = ((unit : Unit) × IsSmallFile bytes unit × RepliesInUnit unit number tag r)
-    ⊎ (((unit : Unit) → IsSmallFile bytes unit → ⊥) × (r ≡ refused name unbuilt))
+RepliesOnBytes name number tag bytes r = IsBytes bytes × (((o : Object) × ObjectSpells o bytes × RepliesOnObject name number tag o r)
+    ⊎ ((f : Fault) × FileFault bytes f × (r ≡ refused name f)))
 
 -- the reply on a name: whether there is a file, whether it is within the limit, and what its bytes are
 abbrev pub RepliesOnFile : List ℕ → ℕ → List ℕ → Option (List ℕ) → Reply → Type 0

@@ -1,14 +1,15 @@
 ghost use Rattle.std.specs.Prelude.{◌≡◌, ◌≤◌, ◌<◌, length, IfOk, Err};
 ghost use Rattle.st_base.specs.declared.fault.Fault.{Fault};
 ghost use Rattle.stabs_tool.specs.Promise as promise;
-ghost use Rattle.stabs_tool.specs.Promise.{Decided, RepliesOnTag, RepliesInUnit, RepliesOnBytes, Says};
+ghost use Rattle.stabs_tool.specs.Promise.{Decided, RepliesOnTag, RepliesInUnit, RepliesOnObject, RepliesOnBytes, Says};
 ghost use Rattle.stabs_tool.specs.Words.{command_of};
 
 use crate::listed::listed;
+use crate::reading::read_unit;
 use crate::reply::{Reply, absent, limit, nothing, read_fault, refused, usage};
-use crate::small_file::read_small_file;
 use crate::types::{Unit, find_tag, listing};
 use crate::words::{Command, read_command};
+use aout_object::{Object, decode};
 use outside::{Files, Loaded};
 use st_base::{List, Memory, Refused, Text};
 use std::alloc::Global;
@@ -40,18 +41,35 @@ fn in_unit(alloc: Global, unit: &Unit, number: u32, tag: &[u8]) -> Result<Reply,
     }
 }
 
+/// The reply on an object.
+fn on_object(
+    alloc: Global,
+    name: &Text,
+    number: u32,
+    tag: &Text,
+    object: &Object,
+) -> Result<Reply, Memory>
+    ensures { IfOk result (RepliesOnObject name.now number tag.now object.now) }
+{
+    match read_unit(alloc, object, tag.bytes()) {
+        Ok(kept) => in_unit(alloc, &kept, number, tag.bytes()),
+        Err(Refused::At(fault)) => refused(alloc, name.bytes(), fault),
+        Err(Refused::Memory) => Err(Memory),
+    }
+}
+
 /// The reply on the bytes of a file.
 fn on_bytes(
     alloc: Global,
     name: &Text,
     number: u32,
     tag: &Text,
-    bytes: &Text,
+    bytes: &[u8],
 ) -> Result<Reply, Memory>
     ensures { IfOk result (RepliesOnBytes name.now number tag.now bytes.now) }
 {
-    match read_small_file(alloc, bytes.bytes()) {
-        Ok(unit) => in_unit(alloc, &unit, number, tag.bytes()),
+    match decode(alloc, bytes) {
+        Ok(object) => on_object(alloc, name, number, tag, &object),
         Err(Refused::At(fault)) => refused(alloc, name.bytes(), fault),
         Err(Refused::Memory) => Err(Memory),
     }
@@ -68,7 +86,7 @@ fn on_loaded(
     ensures { IfOk result (Says name.now number tag.now loaded) }
 {
     match loaded {
-        Loaded::Bytes(bytes) => on_bytes(alloc, name, number, tag, &bytes),
+        Loaded::Bytes(bytes) => on_bytes(alloc, name, number, tag, bytes.bytes()),
         Loaded::Absent => absent(alloc, name.bytes()),
         Loaded::Long => limit(alloc),
         Loaded::Failed => read_fault(alloc, name.bytes()),

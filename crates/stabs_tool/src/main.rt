@@ -5,17 +5,23 @@
 #![tactic(auto)]
 
 mod decide;
+#[cfg(test)]
+mod file_tests;
 mod laws;
 mod listed;
+mod marks;
+mod reach;
+mod reading;
 mod reply;
-mod small_file;
+mod stabs;
+mod survey;
 #[cfg(test)]
 mod tests;
 mod top;
 pub mod types;
 mod words;
 
-pub use laws::{one_outcome, one_unit};
+pub use laws::one_outcome;
 use outside::{DiskFiles, StreamSink};
 use st_base::{List, Memory, Text};
 use std::env;

@@ -27,6 +27,23 @@ fn object(alloc: Global, at: usize, byte: u8) -> Result<Text, Fail> {
     Ok(bytes)
 }
 
+/// The object of the README without its last byte.
+fn short_object(alloc: Global) -> Result<Text, Fail> {
+    let whole = object(alloc, NOWHERE, 0)?;
+    let mut bytes = Text::new(alloc);
+    if let Some((_, front)) = whole.bytes().split_last() {
+        bytes.extend(front)?;
+    }
+    Ok(bytes)
+}
+
+/// The object of the README with one byte more.
+fn long_object(alloc: Global) -> Result<Text, Fail> {
+    let mut bytes = object(alloc, NOWHERE, 0)?;
+    bytes.push(0)?;
+    Ok(bytes)
+}
+
 /// A place that no object of these tests has.
 const NOWHERE: usize = usize::MAX;
 
@@ -51,7 +68,7 @@ fn split(alloc: Global, line: &[u8]) -> Result<List<Text>, Fail> {
 const LIST: &[u8] =
     b"3\n0 T list s8val:#1,0,32;next:#2,32,32;;\n1 t int r#1;-2147483648;2147483647;\n2 - - *#0\n";
 
-/// Runs these words over the object of the README and three files that are not small, and compares.
+/// Runs these words over the object of the README and three files that are refused, and compares.
 fn expect(
     rt: &impl Abort,
     alloc: Global,
@@ -96,17 +113,34 @@ fn other_files_are_refused(rt: HostRuntime) -> Result<(), Fail> {
         alloc,
         b"query other_magic.o tag 0 list",
         3,
-        b"refused other_magic.o 200 0 0\n",
+        b"refused other_magic.o 1 0 0\n",
     )?;
     expect(
         &rt,
         alloc,
         b"query empty tag 0 list",
         3,
-        b"refused empty 200 0 0\n",
+        b"refused empty 5 0 0\n",
     )?;
     expect(&rt, alloc, b"query b.o tag 0 list", 5, b"absent b.o\n")?;
     expect(&rt, alloc, b"query \x01 tag 0 list", 5, b"absent \\x01\n")
+}
+
+#[test]
+fn an_object_one_byte_short_or_long_is_refused(rt: HostRuntime) -> Result<(), Fail> {
+    let alloc = rt.alloc();
+    let words = split(alloc, b"query a.o tag 0 list")?;
+    for (bytes, expected) in [
+        (short_object(alloc)?, b"refused a.o 5 172 0\n".as_slice()),
+        (long_object(alloc)?, b"refused a.o 6 173 0\n"),
+    ] {
+        let mut files = MemoryFiles::new(alloc);
+        files.hold(text(alloc, b"a.o")?, bytes)?;
+        let mut out = MemorySink::new(alloc);
+        assert_eq!(rt; run(alloc, &words, &mut files, &mut out), 3);
+        assert_eq!(rt; out.written(), expected);
+    }
+    Ok(())
 }
 
 #[test]

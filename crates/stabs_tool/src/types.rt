@@ -8,6 +8,7 @@ mod listing;
 mod unit;
 
 pub use definitions::{definition, find_tag, type_name};
+pub(crate) use definitions::{is_tag, outer_key};
 pub use listing::{KeyList, listing, one_listing};
 pub use unit::Unit;
 

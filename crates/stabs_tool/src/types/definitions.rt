@@ -18,7 +18,7 @@ pub fn is_cross(tree: &TypeTree) -> bool
 }
 
 // The number that a type is, or that it defines at once.
-fn outer_key(tree: &TypeTree) -> Option<Key>
+pub(crate) fn outer_key(tree: &TypeTree) -> Option<Key>
     ensures { result ≡ grammar.outer_key tree.now }
 {
     match tree {
@@ -48,7 +48,7 @@ fn is_name(symbol: &Symbol, key: Key) -> bool
     is_type_symbol(symbol.descriptor) && outer_key(&symbol.tree) == Some(key)
 }
 
-fn is_tag(symbol: &Symbol, name: &[u8]) -> bool
+pub(crate) fn is_tag(symbol: &Symbol, name: &[u8]) -> bool
     ensures { result ≡ spec.is_tag name.now symbol.now }
 {
     is_tag_symbol(symbol.descriptor)

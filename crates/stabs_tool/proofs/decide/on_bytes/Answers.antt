@@ -1,6 +1,18 @@
-use Rattle.std.proofs.Common.{◌∙◌, ap, Err}
-use Rattle.stabs_tool.proofs.Decides.{by_refusal}
+use Rattle.std.proofs.Common.{arith, refl, ap, Err}
+use Rattle.st_base.specs.Number.{IsBytes}
+use Rattle.st_base.proofs.BytesLemmas.{IsBytes-items}
+use Rattle.stabs_tool.proofs.Decides.{by_object, by_fault}
 use Rattle.stabs_tool.proofs.decide.on_bytes.Goals as goal
 
+-- the bytes of a slice are bytes
+
+pub returns-in-Ok : goal.returns-in-Ok
+returns-in-Ok c =
+    let are_bytes : IsBytes c.args.bytes.now = IsBytes-items c.args.bytes.now (λ k. omega (arith, c.type_inv.bytes k)) in
+    by_object c.args.name.now c.args.number c.args.tag.now c.args.bytes.now c.args.bytes.now c.in-Ok.object c.on_object.result are_bytes refl c.in-Ok.ensures.found c.on_object.ensures
+
 pub returns-in-Err-At : goal.returns-in-Err-At
-returns-in-Err-At c = by_refusal c.args.name.now c.args.number c.args.tag.now c.args.bytes.now c.bytes.result.now c.bytes-in-Err-At.result.now c.read_small_file.result c.in-Err-At.fault c.refused.result (c.in-Err-At.is ∙ ap Err c.in-Err-At.field-0-is) c.read_small_file.ensures.refused c.bytes.ensures c.bytes-in-Err-At.ensures c.refused.ensures
+returns-in-Err-At c =
+    let are_bytes : IsBytes c.args.bytes.now = IsBytes-items c.args.bytes.now (λ k. omega (arith, c.type_inv.bytes k)) in
+    by_fault c.args.name.now c.args.number c.args.tag.now c.args.bytes.now c.args.bytes.now c.bytes.result.now c.in-Err-At.fault c.refused.result
+    are_bytes refl (c.in-Err-At.ensures.fault c.in-Err-At.fault (ap Err c.in-Err-At.field-0-is)) c.bytes.ensures c.refused.ensures

@@ -1,6 +1,4 @@
-use Rattle.std.proofs.Common.{◌<◌, ◌≤◌, length, arith, sym, subst, Option}
-use Rattle.std.specs.Prelude.{IfSome}
-use Rattle.stabs_tool.specs.Indexes.{IsIndex}
+use Rattle.std.proofs.Common.{◌<◌, ◌≤◌, length, arith}
 use Rattle.stabs_tool.proofs.WorkListLemmas.{all_there_are, listed-step, listed-bound}
 use Rattle.stabs_tool.proofs.types.listing.listing.Goals as goal
 use Rattle.stabs_tool.proofs.types.listing.listing.Goals.{then-done-eq-FEW+in_ok-index, else-done-eq-FEW}

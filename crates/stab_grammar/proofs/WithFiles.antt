@@ -1,0 +1,181 @@
+-- A type with other files: its shape stays, its files are the changed ones in the same order, and with its own files put back in
+-- order it is the type again.
+use Rattle.std.proofs.Common.{◌≡◌, ℕ, List, [], ◌∷◌, ◌++◌, map, refl, sym, ap, ◌∙◌}
+use Rattle.std.specs.Prelude.{decimal, flat_map}
+use Rattle.std.proofs.lemmas.List.{map-append}
+use Rattle.readers.specs.Spelling.{ended}
+use Rattle.stab_grammar.specs.declared.tree.Num.{Num}
+use Rattle.stab_grammar.specs.declared.tree.Num.TheVariants.{Plain, Pair}
+use Rattle.stab_grammar.specs.declared.tree.Field.{Field, roll-Field}
+use Rattle.stab_grammar.specs.declared.tree.TypeTree.{TypeTree}
+use Rattle.stab_grammar.specs.declared.tree.TypeTree.TheVariants.{rolls-Ref, rolls-Def, rolls-Pointer, rolls-Function, rolls-Const, rolls-Volatile, rolls-Range, rolls-Array, rolls-Struct, rolls-Union, rolls-Enum, rolls-Cross, rolls-Sized, rolls-Builtin, rolls-Real}
+use Rattle.stab_grammar.specs.declared.tree.TypeTree.TheOpen.{TypeTree-F, Field-F}
+use Rattle.stab_grammar.specs.declared.tree.TypeTree.TheViews.{roll-TypeTree}
+use Rattle.stab_grammar.specs.declared.tree.TypeTree.TheFolds.{fold-TypeTree, fold-Field, fold-roll-TypeTree, fold-roll-Field, map-TypeTree, map-Field}
+use Rattle.stab_grammar.specs.Spelling.{numeral, same, field_step}
+use Rattle.stab_grammar.specs.Files.{file_in, field_files, all_files, files_step, files_in, files_in_field, num_shape, shape_step, tree_shape, field_shape, num_with, with_step, tree_with, field_with}
+use Rattle.stab_grammar.proofs.Levels as levels
+
+-- ---- one level
+
+-- one level of a type with the file changed; all else stays
+abbrev pub changed : (ℕ → ℕ) → TypeTree-F TypeTree Field → TypeTree-F TypeTree Field
+changed change (TypeTree-F.Ref n) = TypeTree-F.Ref (num_with change n)
+changed change (TypeTree-F.Def n t) = TypeTree-F.Def (num_with change n) t
+changed change other = other
+
+-- it is what the level is made of
+with_is : (change : ℕ → ℕ) (x : TypeTree-F TypeTree Field) → with_step change x ≡ roll-TypeTree (changed change x)
+with_is change (TypeTree-F.Ref n) = sym (rolls-Ref (num_with change n))
+with_is change (TypeTree-F.Def n t) = sym (rolls-Def (num_with change n) t)
+with_is change (TypeTree-F.Pointer t) = sym (rolls-Pointer t)
+with_is change (TypeTree-F.Function t) = sym (rolls-Function t)
+with_is change (TypeTree-F.Const t) = sym (rolls-Const t)
+with_is change (TypeTree-F.Volatile t) = sym (rolls-Volatile t)
+with_is change (TypeTree-F.Range t low high) = sym (rolls-Range t low high)
+with_is change (TypeTree-F.Array i low high t) = sym (rolls-Array i low high t)
+with_is change (TypeTree-F.Struct size fields) = sym (rolls-Struct size fields)
+with_is change (TypeTree-F.Union size fields) = sym (rolls-Union size fields)
+with_is change (TypeTree-F.Enum choices) = sym (rolls-Enum choices)
+with_is change (TypeTree-F.Cross tag name) = sym (rolls-Cross tag name)
+with_is change (TypeTree-F.Sized bits t) = sym (rolls-Sized bits t)
+with_is change (TypeTree-F.Builtin n) = sym (rolls-Builtin n)
+with_is change (TypeTree-F.Real a b c) = sym (rolls-Real a b c)
+
+-- the level, once the types and fields inside have their files changed
+abbrev pub with_level : (ℕ → ℕ) → TypeTree-F TypeTree Field → TypeTree-F TypeTree Field
+with_level change x = changed change (map-TypeTree TypeTree Field TypeTree Field (tree_with change) (field_with change) x)
+
+-- a type with other files is that level
+pub with-roll : (change : ℕ → ℕ) (x : TypeTree-F TypeTree Field) → tree_with change (roll-TypeTree x) ≡ roll-TypeTree (with_level change x)
+with-roll change x = fold-roll-TypeTree TypeTree Field (with_step change) roll-Field x ∙ with_is change (map-TypeTree TypeTree Field TypeTree Field (tree_with change) (field_with change) x)
+
+-- a field with another type
+abbrev pub with_tree : {A B : Type 0} → Field-F A B → TypeTree → Field
+with_tree f t = roll-Field (record { name = f.name; tree = t; bit = f.bit; bits = f.bits })
+
+-- what is folded over a type with other files is folded over that level
+pub fold-with : (A B : Type 0) (S : TypeTree-F A B → A) (F : Field-F A B → B) (change : ℕ → ℕ) (x : TypeTree-F TypeTree Field) → fold-TypeTree A B S F (tree_with change (roll-TypeTree x)) ≡ S (map-TypeTree TypeTree Field A B (fold-TypeTree A B S F) (fold-Field A B S F) (with_level change x))
+fold-with A B S F change x = ap (fold-TypeTree A B S F) (with-roll change x) ∙ fold-roll-TypeTree A B S F (with_level change x)
+
+-- and so with a field
+pub fold-with-field : (A B : Type 0) (S : TypeTree-F A B → A) (F : Field-F A B → B) (change : ℕ → ℕ) (f : Field-F TypeTree Field) → fold-Field A B S F (field_with change (roll-Field f)) ≡ F (map-Field TypeTree Field A B (fold-TypeTree A B S F) (fold-Field A B S F) (map-Field TypeTree Field TypeTree Field (tree_with change) (field_with change) f))
+fold-with-field A B S F change f = ap (fold-Field A B S F) (fold-roll-Field TypeTree Field (with_step change) roll-Field f) ∙ fold-roll-Field A B S F (map-Field TypeTree Field TypeTree Field (tree_with change) (field_with change) f)
+
+-- equal fronts and equal rests
+pub joined : (p q r s : List ℕ) → p ≡ q → r ≡ s → p ++ r ≡ q ++ s
+joined p q r s e f = cc
+
+module _ (change : ℕ → ℕ) where
+  -- ---- the shape stays
+
+  abbrev SameShape : TypeTree → Type 0
+  SameShape t = tree_shape (tree_with change t) ≡ tree_shape t
+
+  abbrev SameFieldShape : Field → Type 0
+  SameFieldShape f = field_shape (field_with change f) ≡ field_shape f
+
+  -- the shape has no file
+  num_shape_same : (n : Num) → num_shape (num_with change n) ≡ num_shape n
+  num_shape_same (Plain n) = refl
+  num_shape_same (Pair f n) = refl
+
+  -- so of the fields
+  fields_shape : (fields : List (levels.SoundField SameShape SameFieldShape)) → ended same (59 ∷ []) (map field_shape (map (field_with change) (map (levels.field_of SameShape SameFieldShape) fields))) ≡ ended same (59 ∷ []) (map field_shape (map (levels.field_of SameShape SameFieldShape) fields))
+  fields_shape [] = refl
+  fields_shape (f ∷ fields) = joined _ _ _ _ f.1 (fields_shape fields)
+
+  shape_texts : TypeTree-F TypeTree Field → TypeTree-F (List ℕ) (List ℕ)
+  shape_texts x = map-TypeTree TypeTree Field (List ℕ) (List ℕ) tree_shape field_shape x
+
+  shape_level : (y : TypeTree-F (levels.SoundTree SameShape SameFieldShape) (levels.SoundField SameShape SameFieldShape)) → shape_step (shape_texts (with_level change (levels.level SameShape SameFieldShape y))) ≡ shape_step (shape_texts (levels.level SameShape SameFieldShape y))
+  unfolding shape_texts
+  shape_level (TypeTree-F.Ref n) = num_shape_same n
+  shape_level (TypeTree-F.Def n t) = joined _ _ _ _ (num_shape_same n) (ap (λ (z : List ℕ). 61 ∷ z) t.1)
+  shape_level (TypeTree-F.Pointer t) = ap (λ (z : List ℕ). 42 ∷ z) t.1
+  shape_level (TypeTree-F.Function t) = ap (λ (z : List ℕ). 102 ∷ z) t.1
+  shape_level (TypeTree-F.Const t) = ap (λ (z : List ℕ). 107 ∷ z) t.1
+  shape_level (TypeTree-F.Volatile t) = ap (λ (z : List ℕ). 66 ∷ z) t.1
+  shape_level (TypeTree-F.Range t low high) = ap (λ (z : List ℕ). 114 ∷ ((z ++ 59 ∷ []) ++ ((numeral low ++ 59 ∷ []) ++ (numeral high ++ 59 ∷ [])))) t.1
+  shape_level (TypeTree-F.Array i low high t) =
+      ap (λ (z : List ℕ). 97 ∷ (114 ∷ ((z ++ 59 ∷ []) ++ ((numeral low ++ 59 ∷ []) ++ ((numeral high ++ 59 ∷ []) ++ tree_shape (tree_with change t.0)))))) i.1
+      ∙ ap (λ (z : List ℕ). 97 ∷ (114 ∷ ((tree_shape i.0 ++ 59 ∷ []) ++ ((numeral low ++ 59 ∷ []) ++ ((numeral high ++ 59 ∷ []) ++ z))))) t.1
+  shape_level (TypeTree-F.Struct size fields) = ap (λ (z : List ℕ). 115 ∷ (decimal size ++ z)) (fields_shape fields)
+  shape_level (TypeTree-F.Union size fields) = ap (λ (z : List ℕ). 117 ∷ (decimal size ++ z)) (fields_shape fields)
+  shape_level (TypeTree-F.Enum choices) = refl
+  shape_level (TypeTree-F.Cross tag name) = refl
+  shape_level (TypeTree-F.Sized bits t) = ap (λ (z : List ℕ). 64 ∷ (115 ∷ ((decimal bits ++ 59 ∷ []) ++ z))) t.1
+  shape_level (TypeTree-F.Builtin n) = refl
+  shape_level (TypeTree-F.Real a b c) = refl
+
+  shape_tree : (y : TypeTree-F (levels.SoundTree SameShape SameFieldShape) (levels.SoundField SameShape SameFieldShape)) → SameShape (roll-TypeTree (levels.level SameShape SameFieldShape y))
+  unfolding shape_texts
+  shape_tree y =
+      let x = levels.level SameShape SameFieldShape y in
+      fold-with (List ℕ) (List ℕ) shape_step field_step change x ∙ shape_level y ∙ sym (fold-roll-TypeTree (List ℕ) (List ℕ) shape_step field_step x)
+
+  shape_field : (y : Field-F (levels.SoundTree SameShape SameFieldShape) (levels.SoundField SameShape SameFieldShape)) → SameFieldShape (roll-Field (levels.field_level SameShape SameFieldShape y))
+  shape_field y =
+      let f = levels.field_level SameShape SameFieldShape y in
+      let tail : List ℕ = (decimal y.bit ++ 44 ∷ []) ++ (decimal y.bits ++ 59 ∷ []) in
+      fold-with-field (List ℕ) (List ℕ) shape_step field_step change f
+      ∙ ap (λ (z : List ℕ). (y.name ++ 58 ∷ []) ++ ((z ++ 44 ∷ []) ++ tail)) y.tree.1
+      ∙ sym (fold-roll-Field (List ℕ) (List ℕ) shape_step field_step f)
+
+  -- a type with other files has the same shape
+  pub shape-with : (t : TypeTree) → tree_shape (tree_with change t) ≡ tree_shape t
+  shape-with = levels.by_levels SameShape SameFieldShape shape_tree shape_field
+
+  -- ---- the files are the changed ones
+
+  abbrev SameFiles : TypeTree → Type 0
+  SameFiles t = files_in (tree_with change t) ≡ map change (files_in t)
+
+  abbrev SameFieldFiles : Field → Type 0
+  SameFieldFiles f = files_in_field (field_with change f) ≡ map change (files_in_field f)
+
+  -- the file of a number
+  file_with : (n : Num) → file_in (num_with change n) ≡ map change (file_in n)
+  file_with (Plain n) = refl
+  file_with (Pair f n) = refl
+
+  -- those of the fields
+  fields_files : (fields : List (levels.SoundField SameFiles SameFieldFiles)) → flat_map all_files (map files_in_field (map (field_with change) (map (levels.field_of SameFiles SameFieldFiles) fields))) ≡ map change (flat_map all_files (map files_in_field (map (levels.field_of SameFiles SameFieldFiles) fields)))
+  fields_files [] = refl
+  fields_files (f ∷ fields) = joined _ _ _ _ f.1 (fields_files fields) ∙ sym (map-append change (files_in_field f.0) _)
+
+  files_texts : TypeTree-F TypeTree Field → TypeTree-F (List ℕ) (List ℕ)
+  files_texts x = map-TypeTree TypeTree Field (List ℕ) (List ℕ) files_in files_in_field x
+
+  files_level : (y : TypeTree-F (levels.SoundTree SameFiles SameFieldFiles) (levels.SoundField SameFiles SameFieldFiles)) → files_step (files_texts (with_level change (levels.level SameFiles SameFieldFiles y))) ≡ map change (files_step (files_texts (levels.level SameFiles SameFieldFiles y)))
+  unfolding files_texts
+  files_level (TypeTree-F.Ref n) = file_with n
+  files_level (TypeTree-F.Def n t) = joined _ _ _ _ (file_with n) t.1 ∙ sym (map-append change (file_in n) (files_in t.0))
+  files_level (TypeTree-F.Pointer t) = t.1
+  files_level (TypeTree-F.Function t) = t.1
+  files_level (TypeTree-F.Const t) = t.1
+  files_level (TypeTree-F.Volatile t) = t.1
+  files_level (TypeTree-F.Range t low high) = t.1
+  files_level (TypeTree-F.Array i low high t) = joined _ _ _ _ i.1 t.1 ∙ sym (map-append change (files_in i.0) (files_in t.0))
+  files_level (TypeTree-F.Struct size fields) = fields_files fields
+  files_level (TypeTree-F.Union size fields) = fields_files fields
+  files_level (TypeTree-F.Enum choices) = refl
+  files_level (TypeTree-F.Cross tag name) = refl
+  files_level (TypeTree-F.Sized bits t) = t.1
+  files_level (TypeTree-F.Builtin n) = refl
+  files_level (TypeTree-F.Real a b c) = refl
+
+  files_tree : (y : TypeTree-F (levels.SoundTree SameFiles SameFieldFiles) (levels.SoundField SameFiles SameFieldFiles)) → SameFiles (roll-TypeTree (levels.level SameFiles SameFieldFiles y))
+  unfolding files_texts
+  files_tree y =
+      let x = levels.level SameFiles SameFieldFiles y in
+      fold-with (List ℕ) (List ℕ) files_step field_files change x ∙ files_level y ∙ ap (map change) (sym (fold-roll-TypeTree (List ℕ) (List ℕ) files_step field_files x))
+
+  files_field : (y : Field-F (levels.SoundTree SameFiles SameFieldFiles) (levels.SoundField SameFiles SameFieldFiles)) → SameFieldFiles (roll-Field (levels.field_level SameFiles SameFieldFiles y))
+  files_field y =
+      let f = levels.field_level SameFiles SameFieldFiles y in
+      fold-with-field (List ℕ) (List ℕ) files_step field_files change f ∙ y.tree.1 ∙ ap (map change) (sym (fold-roll-Field (List ℕ) (List ℕ) files_step field_files f))
+
+  -- the files of a type with other files are the changed ones, in the same order
+  pub files-with : (t : TypeTree) → files_in (tree_with change t) ≡ map change (files_in t)
+  files-with = levels.by_levels SameFiles SameFieldFiles files_tree files_field

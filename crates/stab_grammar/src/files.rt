@@ -1,0 +1,349 @@
+ghost use Rattle.std.specs.Prelude.{◌≡◌, ◌++◌, ◌∷◌, ◌↔◌, [], List, ℕ, decimal, map, flat_map, IfOk, OnOk};
+ghost use Rattle.readers.specs.Spelling.{ended};
+ghost use Rattle.stab_grammar.specs.declared.tree.Symbol.{Symbol};
+ghost use Rattle.stab_grammar.specs.Spelling.{same};
+ghost use Rattle.stab_grammar.specs.Shape.{ShapedSymbol};
+ghost use Rattle.stab_grammar.specs.Files as spec;
+ghost use Rattle.stab_grammar.specs.Files.{files_of, shape_of, renumbered, DifferInFiles, new_file};
+
+use crate::printing::{
+    letters_of, print_type, put_byte, put_bytes, put_name_and, put_number, put_number_and,
+    put_numeral_and,
+};
+use crate::tree::{Choice, Field, Num, Numeral, Symbol, TypeTree};
+use st_base::{Boxed as Box, List, Memory, Text};
+use std::alloc::Global;
+
+/// Stands for a file that a list of files does not have; it is greater than every file.
+const NO_FILE: u32 = 65536;
+
+// ---- the files, in printed order
+
+fn put_file(num: &Num, out: &mut List<u32>) -> Result<(), Memory>
+    ensures { OnOk result (out.new ≡ out.old ++ spec.file_in num.now) }
+{
+    match num {
+        Num::Plain(_) => Ok(()),
+        Num::Pair(file, _) => out.push(*file),
+    }
+}
+
+#[cycle(files)]
+fn put_field_files(field: &Field, out: &mut List<u32>) -> Result<(), Memory>
+    ensures { OnOk result (out.new ≡ out.old ++ spec.files_in_field field.now) }
+{
+    put_files(&field.tree, out)
+}
+
+#[cycle(files)]
+fn put_fields_files(fields: &[Field], out: &mut List<u32>) -> Result<(), Memory>
+    ensures { OnOk result (out.new ≡ out.old ++ flat_map spec.all_files (map spec.files_in_field fields.now)) }
+{
+    for field in fields {
+        put_field_files(field, out)?;
+    }
+    Ok(())
+}
+
+#[cycle(files)]
+fn put_files(tree: &TypeTree, out: &mut List<u32>) -> Result<(), Memory>
+    ensures { OnOk result (out.new ≡ out.old ++ spec.files_in tree.now) }
+{
+    match tree {
+        TypeTree::Ref(num) => put_file(num, out),
+        TypeTree::Def(num, body) => {
+            put_file(num, out)?;
+            put_files(body.get(), out)
+        }
+        TypeTree::Pointer(inner) => put_files(inner.get(), out),
+        TypeTree::Function(inner) => put_files(inner.get(), out),
+        TypeTree::Const(inner) => put_files(inner.get(), out),
+        TypeTree::Volatile(inner) => put_files(inner.get(), out),
+        TypeTree::Range(inner, _, _) => put_files(inner.get(), out),
+        TypeTree::Array(index, _, _, item) => {
+            put_files(index.get(), out)?;
+            put_files(item.get(), out)
+        }
+        TypeTree::Struct(_, fields) => put_fields_files(fields.items(), out),
+        TypeTree::Union(_, fields) => put_fields_files(fields.items(), out),
+        TypeTree::Sized(_, inner) => put_files(inner.get(), out),
+        TypeTree::Enum(_) => Ok(()),
+        TypeTree::Cross(_, _) => Ok(()),
+        TypeTree::Builtin(_) => Ok(()),
+        TypeTree::Real(_, _, _) => Ok(()),
+    }
+}
+
+/// The files of all pairs `(file,number)` of a symbol, in the order in which they are printed. A plain number has none.
+pub fn numbers(alloc: Global, symbol: &Symbol) -> Result<List<u32>, Memory>
+    ensures { IfOk result (λ files. files ≡ files_of symbol.now) }
+{
+    let mut files = List::new(alloc);
+    put_files(&symbol.tree, &mut files)?;
+    Ok(files)
+}
+
+// ---- the shape
+
+// The number, without the digits of its file.
+fn put_num_shape(num: &Num, out: &mut Text) -> Result<(), Memory>
+    ensures { OnOk result (out.new ≡ out.old ++ spec.num_shape num.now) }
+{
+    match num {
+        Num::Plain(number) => put_number(*number, out),
+        Num::Pair(_, number) => {
+            put_bytes(b"(,", out)?;
+            put_number_and(*number, b')', out)
+        }
+    }
+}
+
+#[cycle(shapes)]
+fn put_field_shape(field: &Field, out: &mut Text) -> Result<(), Memory>
+    ensures { OnOk result (out.new ≡ out.old ++ spec.field_shape field.now) }
+{
+    put_name_and(&field.name, b':', out)?;
+    put_shape_and(&field.tree, b',', out)?;
+    put_number_and(field.bit, b',', out)?;
+    put_number_and(field.bits, b';', out)
+}
+
+#[cycle(shapes)]
+fn put_field_shapes(fields: &[Field], out: &mut Text) -> Result<(), Memory>
+    ensures { OnOk result (out.new ≡ out.old ++ ended same (59 ∷ []) (map spec.field_shape fields.now)) }
+{
+    for field in fields {
+        put_field_shape(field, out)?;
+    }
+    put_byte(b';', out)
+}
+
+// A structure or union.
+#[cycle(shapes)]
+fn put_members_shape(letter: u8, size: u32, fields: &[Field], out: &mut Text) -> Result<(), Memory>
+    ensures { OnOk result (out.new ≡ out.old ++ letter ∷ (decimal size ++ ended same (59 ∷ []) (map spec.field_shape fields.now))) }
+{
+    put_byte(letter, out)?;
+    put_number(size, out)?;
+    put_field_shapes(fields, out)
+}
+
+// The shape of a type behind a letter.
+#[cycle(shapes)]
+fn put_shape_behind(letter: u8, tree: &TypeTree, out: &mut Text) -> Result<(), Memory>
+    ensures { OnOk result (out.new ≡ out.old ++ letter ∷ spec.tree_shape tree.now) }
+{
+    put_byte(letter, out)?;
+    put_shape(tree, out)
+}
+
+#[cycle(shapes)]
+fn put_shape_and(tree: &TypeTree, end: u8, out: &mut Text) -> Result<(), Memory>
+    ensures { OnOk result (out.new ≡ out.old ++ (spec.tree_shape tree.now ++ end ∷ [])) }
+{
+    put_shape(tree, out)?;
+    put_byte(end, out)
+}
+
+// A type that holds no type is its spelling.
+#[cycle(shapes)]
+fn put_shape(tree: &TypeTree, out: &mut Text) -> Result<(), Memory>
+    ensures { OnOk result (out.new ≡ out.old ++ spec.tree_shape tree.now) }
+{
+    match tree {
+        TypeTree::Ref(num) => put_num_shape(num, out),
+        TypeTree::Def(num, inner) => {
+            put_num_shape(num, out)?;
+            put_shape_behind(b'=', inner.get(), out)
+        }
+        TypeTree::Pointer(inner) => put_shape_behind(b'*', inner.get(), out),
+        TypeTree::Function(inner) => put_shape_behind(b'f', inner.get(), out),
+        TypeTree::Const(inner) => put_shape_behind(b'k', inner.get(), out),
+        TypeTree::Volatile(inner) => put_shape_behind(b'B', inner.get(), out),
+        TypeTree::Range(inner, low, high) => {
+            put_byte(b'r', out)?;
+            put_shape_and(inner.get(), b';', out)?;
+            put_numeral_and(low, b';', out)?;
+            put_numeral_and(high, b';', out)
+        }
+        TypeTree::Array(index, low, high, item) => {
+            put_bytes(b"ar", out)?;
+            put_shape_and(index.get(), b';', out)?;
+            put_numeral_and(low, b';', out)?;
+            put_numeral_and(high, b';', out)?;
+            put_shape(item.get(), out)
+        }
+        TypeTree::Struct(size, fields) => put_members_shape(b's', *size, fields.items(), out),
+        TypeTree::Union(size, fields) => put_members_shape(b'u', *size, fields.items(), out),
+        TypeTree::Sized(bits, inner) => {
+            put_bytes(b"@s", out)?;
+            put_number_and(*bits, b';', out)?;
+            put_shape(inner.get(), out)
+        }
+        TypeTree::Enum(_) => print_type(tree, out),
+        TypeTree::Cross(_, _) => print_type(tree, out),
+        TypeTree::Builtin(_) => print_type(tree, out),
+        TypeTree::Real(_, _, _) => print_type(tree, out),
+    }
+}
+
+/// The spelling of a symbol without the digits of the file of each pair, as `(,2)` for `(1,2)`. A plain number stays.
+pub fn shape(alloc: Global, symbol: &Symbol) -> Result<Text, Memory>
+    ensures { IfOk result (λ t. t ≡ shape_of symbol.now) }
+{
+    let mut out = Text::new(alloc);
+    put_name_and(&symbol.name, b':', &mut out)?;
+    put_bytes(letters_of(symbol.descriptor), &mut out)?;
+    put_shape(&symbol.tree, &mut out)?;
+    Ok(out)
+}
+
+// ---- other files
+
+// Item `file` of the list.
+fn file_from(files: &List<u32>, file: u32) -> u32
+    ensures { result ≡ new_file files.now file }
+{
+    match files.get(file as usize) {
+        Some(new) => *new,
+        None => NO_FILE,
+    }
+}
+
+fn renumber_num(files: &List<u32>, num: &Num) -> Num
+    ensures { result ≡ spec.num_with (new_file files.now) num.now }
+{
+    match num {
+        Num::Plain(number) => Num::Plain(*number),
+        Num::Pair(file, number) => Num::Pair(file_from(files, *file), *number),
+    }
+}
+
+fn copy_numeral(alloc: Global, bound: &Numeral) -> Result<Numeral, Memory>
+    ensures { IfOk result (λ copied. copied ≡ bound.now) }
+{
+    match bound {
+        Numeral::Unbounded => Ok(Numeral::Unbounded),
+        Numeral::Digits(negative, digits) => Ok(Numeral::Digits(*negative, digits.copy(alloc)?)),
+    }
+}
+
+fn copy_choice(alloc: Global, choice: &Choice) -> Result<Choice, Memory>
+    ensures { IfOk result (λ copied. copied ≡ choice.now) }
+{
+    Ok(Choice {
+        name: choice.name.copy(alloc)?,
+        number: copy_numeral(alloc, &choice.number)?,
+    })
+}
+
+fn copy_choices(alloc: Global, choices: &[Choice]) -> Result<List<Choice>, Memory>
+    ensures { IfOk result (λ copied. copied ≡ choices.now) }
+{
+    let mut copied = List::new(alloc);
+    for choice in choices {
+        copied.push(copy_choice(alloc, choice)?)?;
+    }
+    Ok(copied)
+}
+
+#[cycle(renumber)]
+fn renumber_field(alloc: Global, files: &List<u32>, field: &Field) -> Result<Field, Memory>
+    ensures { IfOk result (λ made. made ≡ spec.field_with (new_file files.now) field.now) }
+{
+    Ok(Field {
+        name: field.name.copy(alloc)?,
+        tree: renumber_tree(alloc, files, &field.tree)?,
+        bit: field.bit,
+        bits: field.bits,
+    })
+}
+
+#[cycle(renumber)]
+fn renumber_fields(
+    alloc: Global,
+    files: &List<u32>,
+    fields: &[Field],
+) -> Result<List<Field>, Memory>
+    ensures { IfOk result (λ made. made ≡ map (spec.field_with (new_file files.now)) fields.now) }
+{
+    let mut made = List::new(alloc);
+    for field in fields {
+        made.push(renumber_field(alloc, files, field)?)?;
+    }
+    Ok(made)
+}
+
+#[cycle(renumber)]
+fn renumber_boxed(
+    alloc: Global,
+    files: &List<u32>,
+    tree: &TypeTree,
+) -> Result<Box<TypeTree>, Memory>
+    ensures { IfOk result (λ made. made ≡ spec.tree_with (new_file files.now) tree.now) }
+{
+    Ok(Box::new(alloc, renumber_tree(alloc, files, tree)?)?)
+}
+
+#[cycle(renumber)]
+fn renumber_tree(alloc: Global, files: &List<u32>, tree: &TypeTree) -> Result<TypeTree, Memory>
+    ensures { IfOk result (λ made. made ≡ spec.tree_with (new_file files.now) tree.now) }
+{
+    Ok(match tree {
+        TypeTree::Ref(num) => TypeTree::Ref(renumber_num(files, num)),
+        TypeTree::Def(num, inner) => TypeTree::Def(
+            renumber_num(files, num),
+            renumber_boxed(alloc, files, inner.get())?,
+        ),
+        TypeTree::Pointer(inner) => TypeTree::Pointer(renumber_boxed(alloc, files, inner.get())?),
+        TypeTree::Function(inner) => TypeTree::Function(renumber_boxed(alloc, files, inner.get())?),
+        TypeTree::Const(inner) => TypeTree::Const(renumber_boxed(alloc, files, inner.get())?),
+        TypeTree::Volatile(inner) => TypeTree::Volatile(renumber_boxed(alloc, files, inner.get())?),
+        TypeTree::Range(inner, low, high) => TypeTree::Range(
+            renumber_boxed(alloc, files, inner.get())?,
+            copy_numeral(alloc, low)?,
+            copy_numeral(alloc, high)?,
+        ),
+        TypeTree::Array(index, low, high, item) => TypeTree::Array(
+            renumber_boxed(alloc, files, index.get())?,
+            copy_numeral(alloc, low)?,
+            copy_numeral(alloc, high)?,
+            renumber_boxed(alloc, files, item.get())?,
+        ),
+        TypeTree::Struct(size, fields) => {
+            TypeTree::Struct(*size, renumber_fields(alloc, files, fields.items())?)
+        }
+        TypeTree::Union(size, fields) => {
+            TypeTree::Union(*size, renumber_fields(alloc, files, fields.items())?)
+        }
+        TypeTree::Enum(choices) => TypeTree::Enum(copy_choices(alloc, choices.items())?),
+        TypeTree::Cross(tag, name) => TypeTree::Cross(*tag, name.copy(alloc)?),
+        TypeTree::Sized(bits, inner) => {
+            TypeTree::Sized(*bits, renumber_boxed(alloc, files, inner.get())?)
+        }
+        TypeTree::Builtin(number) => TypeTree::Builtin(*number),
+        TypeTree::Real(first, second, third) => TypeTree::Real(*first, *second, *third),
+    })
+}
+
+/// The symbol in which the file f of each pair is item f of the list, or 65,536 where the list is shorter. All else stays.
+pub fn renumber(alloc: Global, symbol: &Symbol, files: &List<u32>) -> Result<Symbol, Memory>
+    ensures { IfOk result (λ s. s ≡ renumbered files.now symbol.now) }
+{
+    Ok(Symbol {
+        name: symbol.name.copy(alloc)?,
+        descriptor: symbol.descriptor,
+        tree: renumber_tree(alloc, files, &symbol.tree)?,
+    })
+}
+
+// ---- laws
+
+/// Two shaped symbols have equal shapes exactly where they differ at most in the files of pairs; of one shape with the same
+/// files they are one symbol. Other files keep the shape, and stand in the order of the old ones.
+pub fn shape_laws()
+    ensures only_files { (s t : Symbol) → ShapedSymbol s → ShapedSymbol t → (shape_of s ≡ shape_of t) ↔ DifferInFiles s t }
+    ensures determined { (s t : Symbol) → ShapedSymbol s → ShapedSymbol t → shape_of s ≡ shape_of t → files_of s ≡ files_of t → s ≡ t }
+    ensures shape_kept { (files : List ℕ) (s : Symbol) → shape_of (renumbered files s) ≡ shape_of s }
+    ensures files_new { (files : List ℕ) (s : Symbol) → files_of (renumbered files s) ≡ map (new_file files) (files_of s) }
+{}
