@@ -10,8 +10,9 @@ on, and builds it by `rt run`, which proves it and all that is below it, so a fi
 was built before: the script prints where it is and keeps it if KEEP is set in the environment.
 
 Each is run ten times, as a child process with its start and its load, and the least time counts, and the least processor
-time, which tells more on a machine that does other work; memory is the greatest resident size. The input is written before, so it is read from the page cache. nm and objdump read an ELF object of the
-same names, print them all, into a file, and are skipped where they or the assembler are missing. `nm -p` does not sort.
+time, which tells more on a machine that does other work; memory is the greatest resident size. The input is written before, so
+it is read from the page cache. nm and objdump read an ELF object of the same names, print them all, into a file, and are
+skipped where they or the assembler are missing. `nm -p` does not sort.
 """
 import os
 import shutil
@@ -19,7 +20,8 @@ import struct
 import subprocess
 import sys
 import tempfile
-import time
+
+from processes import in_a_process, timed
 
 HERE = os.path.dirname(os.path.dirname(os.path.abspath(__file__)))
 RUNS = 10
@@ -151,34 +153,6 @@ def write_peer(folder):
     return target
 
 
-def timed(words, output):
-    """The least seconds and processor seconds of several runs, and the greatest resident size in bytes."""
-    least, worked, most = float("inf"), float("inf"), 0
-    for _ in range(RUNS):
-        with open(output, "wb") as out:
-            start = time.monotonic()
-            child = subprocess.Popen(words, stdout=out)
-            _, status, usage = os.wait4(child.pid, 0)
-            seconds = time.monotonic() - start
-        if status:
-            sys.exit(f"{words} ended with {status}")
-        least = min(least, seconds)
-        worked = min(worked, usage.ru_utime + usage.ru_stime)
-        most = max(most, usage.ru_maxrss * 1024)
-    return least, worked, most
-
-
-def in_a_process(call, *words):
-    """Runs a call in a process of its own, so that what it allocates is no part of what is measured."""
-    child = os.fork()
-    if child == 0:
-        call(*words)
-        os._exit(0)
-    _, status = os.waitpid(child, 0)
-    if status:
-        sys.exit(f"{call.__name__} ended with {status}")
-
-
 def row(label, seconds, worked, memory, size):
     print(f"{label}: {seconds:.3f} s, {worked:.3f} s of a processor, {COUNT / seconds:,.0f} entries/s, {size / seconds / 1e6:.0f} MB/s, "
           f"{memory / 1e6:.1f} MB, {memory / size:.1f} times the file")
@@ -194,15 +168,15 @@ def main():
             print(f"kept: {program}")
         size = os.path.getsize(path)
         print(f"{COUNT:,} entries, {size:,} bytes")
-        row("decode", *timed([program, path], f"{folder}/reply"), size)
-        row("decode and encode", *timed([program, path, "encode"], f"{folder}/reply"), size)
+        row("decode", *timed([program, path], f"{folder}/reply", RUNS), size)
+        row("decode and encode", *timed([program, path, "encode"], f"{folder}/reply", RUNS), size)
         peer = write_peer(folder)
         for words in (["nm"], ["nm", "-p"], ["objdump", "-t"]):
             label = " ".join(words)
             if peer is None or not shutil.which(words[0]):
                 print(f"{label}: not there, skipped")
             else:
-                row(label, *timed([*words, peer], f"{folder}/reply"), os.path.getsize(peer))
+                row(label, *timed([*words, peer], f"{folder}/reply", RUNS), os.path.getsize(peer))
     finally:
         if "KEEP" not in os.environ:
             shutil.rmtree(folder)

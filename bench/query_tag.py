@@ -10,13 +10,13 @@ memory is the greatest resident size. objdump reads an ELF object with the same 
 it or the assembler is missing.
 """
 import os
-import resource
 import shutil
 import struct
 import subprocess
 import sys
 import tempfile
-import time
+
+from processes import in_a_process, timed
 
 HERE = os.path.dirname(os.path.dirname(os.path.abspath(__file__)))
 RUNS = 5
@@ -41,33 +41,6 @@ def small_object(count):
     return header + entries + struct.pack("<I", 4 + len(table)) + table
 
 
-def timed(words, output):
-    """The least seconds of several runs, and the greatest resident size in bytes."""
-    least, most = None, 0
-    for _ in range(RUNS):
-        with open(output, "wb") as out:
-            start = time.monotonic()
-            child = subprocess.Popen(words, stdout=out)
-            _, status, usage = os.wait4(child.pid, 0)
-            seconds = time.monotonic() - start
-        if status:
-            sys.exit(f"{words} ended with {status}")
-        least = seconds if least is None else min(least, seconds)
-        most = max(most, usage.ru_maxrss * 1024)
-    return least, most
-
-
-def in_a_process(call, *words):
-    """Runs a call in a process of its own."""
-    child = os.fork()
-    if child == 0:
-        call(*words)
-        os._exit(0)
-    _, status = os.waitpid(child, 0)
-    if status:
-        sys.exit(f"{call.__name__} ended with {status}")
-
-
 def write_object(path, count):
     with open(path, "wb") as out:
         out.write(small_object(count))
@@ -86,7 +59,7 @@ def with_objdump(folder, count):
     source, target = f"{folder}/peer.s", f"{folder}/peer.o"
     in_a_process(write_peer, source, count)
     subprocess.run(["as", "-o", target, source], check=True)
-    return timed(["objdump", "-G", target], f"{folder}/peer.out")
+    return timed(["objdump", "-G", target], f"{folder}/peer.out", RUNS)
 
 
 def measure(program, folder, label, count):
@@ -94,7 +67,7 @@ def measure(program, folder, label, count):
     in_a_process(write_object, path, count)
     size = os.path.getsize(path)
     words = [program, "query", path, "tag", "0", f"tag{count - 1}"]
-    seconds, memory = timed(words, f"{folder}/reply")
+    seconds, _, memory = timed(words, f"{folder}/reply", RUNS)
     with open(f"{folder}/reply") as reply:
         first = reply.readline().strip()
     if first != "3":
@@ -105,7 +78,7 @@ def measure(program, folder, label, count):
     if peer is None:
         print("  objdump -G: not there, skipped")
     else:
-        print(f"  objdump -G: {peer[0]:.3f} s, {count / peer[0]:,.0f} stabs a second, {peer[1] / 1e6:.1f} MB")
+        print(f"  objdump -G: {peer[0]:.3f} s, {count / peer[0]:,.0f} stabs a second, {peer[2] / 1e6:.1f} MB")
         print(f"  query takes {seconds / peer[0]:.2f} times as long")
 
 
