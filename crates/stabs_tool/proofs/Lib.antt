@@ -5,6 +5,7 @@ pub mod ListingLemmas
 pub mod SurfaceLemmas
 pub mod WorkListLemmas
 pub mod IndexLemmas
+pub mod NamesLemmas
 pub mod MarkLemmas
 pub mod ReachingLemmas
 pub mod KeepLemmas

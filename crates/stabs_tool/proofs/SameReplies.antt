@@ -11,7 +11,7 @@ use Rattle.stabs_tool.specs.declared.types.unit.Unit.{Unit}
 use Rattle.stabs_tool.specs.declared.reply.Reply.{Reply}
 use Rattle.stabs_tool.specs.Units.{tag_of, definition_of, name_of}
 use Rattle.stabs_tool.specs.Listings.{IsListing, led_to, surface_keys, firsts}
-use Rattle.stabs_tool.specs.Replies.{listed, listing_text, node_line, node_lines, name_text, body_text}
+use Rattle.stabs_tool.specs.Replies.{listed, listing_text, node_line, node_lines}
 use Rattle.stabs_tool.specs.Promise.{IsEnough}
 use Rattle.stabs_tool.specs.Reach.{IsKept}
 
@@ -68,18 +68,18 @@ module _ (unit kept : Unit) (has : Key → Type 0) (is : IsKept unit kept has) w
 
   module _ (keys : List Key) where
     -- the line of a key that is kept
-    line_same : (place : ℕ) (key : Key) → has key → node_line kept keys place key ≡ node_line unit keys place key
-    unfolding node_line
+    line_same : (place : ℕ) (key : Key) → has key
+        → node_line keys place (name_of kept key) (definition_of kept key) ≡ node_line keys place (name_of unit key) (definition_of unit key)
     line_same place key here =
-        ap (λ (o : Option Symbol). decimal place ++ 32 ∷ name_text o ++ 32 ∷ body_text keys (definition_of kept key) ++ 10 ∷ []) (is.name key here)
-        ∙ ap (λ (o : Option TypeTree). decimal place ++ 32 ∷ name_text (name_of unit key) ++ 32 ∷ body_text keys o ++ 10 ∷ []) (is.definition key here)
+        ap (λ (o : Option Symbol). node_line keys place o (definition_of kept key)) (is.name key here)
+        ∙ ap (λ (o : Option TypeTree). node_line keys place (name_of unit key) o) (is.definition key here)
 
     -- the lines of keys that are
     lines_same : (place : ℕ) (some : List Key) → All has some → node_lines kept keys place some ≡ node_lines unit keys place some
     lines_same place [] all = refl
     lines_same place (key ∷ some) all =
         ap (λ (z : List ℕ). z ++ node_lines kept keys (place + 1) some) (line_same place key (All-head has key some all))
-        ∙ ap (λ (z : List ℕ). node_line unit keys place key ++ z) (lines_same (place + 1) some (All-tail has key some all))
+        ∙ ap (λ (z : List ℕ). node_line keys place (name_of unit key) (definition_of unit key) ++ z) (lines_same (place + 1) some (All-tail has key some all))
 
     text_same : All has keys → listing_text kept keys ≡ listing_text unit keys
     unfolding listing_text

@@ -1,5 +1,5 @@
--- An index of a unit's definitions: for each number of file 0 the body of its definition, as it grows by one definition after
--- another. This project's own.
+-- Indexes of a unit by the numbers of file 0: of its definitions, as it grows by one definition after another, and of the symbols
+-- that name types, as it grows by one symbol after another. This project's own.
 use Rattle.std.specs.Prelude.{◌≡◌, ℕ, not, ◌&&◌, ◌==◌, if◌then◌else◌, List, [], ◌∷◌, Option, Some, None}
 use Rattle.std.specs.Option.{option_copied}
 use Rattle.std.specs.Ordering.{nat_cmp}
@@ -10,7 +10,10 @@ use Rattle.stab_grammar.specs.declared.tree.TypeTree.{TypeTree}
 use Rattle.stab_grammar.specs.Definitions.{Definition, is_cross}
 use Rattle.stab_grammar.specs.Surface.{same_key}
 use Rattle.stabs_tool.specs.declared.types.unit.Unit.{Unit}
-use Rattle.stabs_tool.specs.Units.{definition_of}
+use Rattle.stab_grammar.specs.declared.tree.Symbol.{Symbol}
+use Rattle.stabs_tool.specs.Units.{definition_of, is_name, name_of}
+
+-- ---- definitions
 
 -- a later definition counts where there was none, or where a cross reference gives way to what is none
 abbrev pub better : Option TypeTree → TypeTree → Option TypeTree
@@ -41,3 +44,22 @@ looked_up index key = if key.file == 0 then body_in index key.number else None
 -- the index has the definition of every key of the unit
 abbrev pub IsIndex : Unit → BTreeMap ℕ (Bor TypeTree) → Type 0
 IsIndex unit index = (key : Key) → looked_up index key ≡ definition_of unit key
+
+-- ---- names
+
+-- what is known of a key, with one symbol more: the first that names it stays
+abbrev pub named : Key → Option Symbol → Symbol → Option Symbol
+named key None s = if is_name key s then Some s else None
+named key (Some old) s = Some old
+
+-- what the names have for a number of file 0
+abbrev pub symbol_in : BTreeMap ℕ (Bor Symbol) → ℕ → Option Symbol
+symbol_in names number = option_copied (get nat_cmp names number)
+
+-- what the names have for a key
+abbrev pub named_by : BTreeMap ℕ (Bor Symbol) → Key → Option Symbol
+named_by names key = if key.file == 0 then symbol_in names key.number else None
+
+-- the names have the symbol that names each key of the unit
+abbrev pub AreNames : Unit → BTreeMap ℕ (Bor Symbol) → Type 0
+AreNames unit names = (key : Key) → named_by names key ≡ name_of unit key

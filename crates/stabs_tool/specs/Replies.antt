@@ -85,14 +85,14 @@ abbrev pub body_text : List Key → Option TypeTree → List ℕ
 body_text keys None = codes "undefined"
 body_text keys (Some body) = shown (placed keys body)
 
--- `I CLASS NAME BODY`, I the place of the key
-unfoldable pub node_line : Unit → List Key → ℕ → Key → List ℕ
-node_line unit keys place key = decimal place ++ 32 ∷ name_text (name_of unit key) ++ 32 ∷ body_text keys (definition_of unit key) ++ 10 ∷ []
+-- `I CLASS NAME BODY`, I the place of a key, by the symbol that names it and its definition
+unfoldable pub node_line : List Key → ℕ → Option Symbol → Option TypeTree → List ℕ
+node_line keys place name body = decimal place ++ 32 ∷ name_text name ++ 32 ∷ body_text keys body ++ 10 ∷ []
 
 -- the lines of these keys, the first of which has this place in the listing
 abbrev pub node_lines : Unit → List Key → ℕ → List Key → List ℕ
 node_lines unit keys place [] = []
-node_lines unit keys place (key ∷ rest) = node_line unit keys place key ++ node_lines unit keys (place + 1) rest
+node_lines unit keys place (key ∷ rest) = node_line keys place (name_of unit key) (definition_of unit key) ++ node_lines unit keys (place + 1) rest
 
 -- the number of keys on a line, and then a line for each
 unfoldable pub listing_text : Unit → List Key → List ℕ

@@ -2,23 +2,24 @@
 
 ghost use Rattle.std.specs.Prelude.{◌≡◌, ◌++◌, ◌∷◌, [], ◌<◌, length, decimal, IfOk, OnOk, All, Contains};
 ghost use Rattle.std.specs.List.{IsDistinct};
+ghost use Rattle.std.specs.Option.{option_copied};
 ghost use Rattle.stab_grammar.specs.Surface.{same_key};
-ghost use Rattle.stab_grammar.specs.declared.tree.Key.{Key};
-ghost use Rattle.stabs_tool.specs.Units.{definition_of, name_of};
-ghost use Rattle.stabs_tool.specs.Listings.{led_to, IsClosed};
+ghost use Rattle.stabs_tool.specs.Listings.{IsClosed, surface_keys};
 ghost use Rattle.stabs_tool.specs.Replies as spec;
 
 use crate::reply::{Reply, put_number};
-use crate::types::{KeyList, Unit, definition, type_name};
+use crate::types::index::{body_at, index};
+use crate::types::names::{name_at, names};
+use crate::types::{KeyList, Unit};
 use st_base::{Memory, Text, show};
-use stab_grammar::{Key, letters_of, print_placed};
+use stab_grammar::{Symbol, TypeTree, letters_of, print_placed};
 use std::alloc::Global;
 
-/// `CLASS NAME` of a key.
-fn put_name(unit: &Unit, key: Key, out: &mut Text) -> Result<(), Memory>
-    ensures { OnOk result (out.new ≡ out.old ++ spec.name_text (name_of unit.now key)) }
+/// `CLASS NAME` of a key, by the symbol that names it.
+fn put_name(name: Option<&Symbol>, out: &mut Text) -> Result<(), Memory>
+    ensures { OnOk result (out.new ≡ out.old ++ spec.name_text (option_copied name.entry)) }
 {
-    match type_name(unit, key) {
+    match name {
         None => out.extend(b"- -"),
         Some(symbol) => {
             out.extend(letters_of(symbol.descriptor))?;
@@ -28,19 +29,18 @@ fn put_name(unit: &Unit, key: Key, out: &mut Text) -> Result<(), Memory>
     }
 }
 
-/// `BODY` of a key.
+/// `BODY` of a key, by its definition.
 fn put_body(
     alloc: Global,
-    unit: &Unit,
     listing: &KeyList,
-    key: Key,
+    body: Option<&TypeTree>,
     out: &mut Text,
 ) -> Result<(), Memory>
     requires distinct { IsDistinct same_key listing.now.keys }
-    requires present { All (Contains listing.now.keys) (led_to unit.now key) }
-    ensures { OnOk result (out.new ≡ out.old ++ spec.body_text listing.now.keys (definition_of unit.now key)) }
+    requires present { All (Contains listing.now.keys) (surface_keys (option_copied body)) }
+    ensures { OnOk result (out.new ≡ out.old ++ spec.body_text listing.now.keys (option_copied body.entry)) }
 {
-    match definition(unit, key) {
+    match body {
         None => out.extend(b"undefined"),
         Some(body) => {
             let mut text = Text::new(alloc);
@@ -54,21 +54,21 @@ fn put_body(
 #[tactic(auto, unfolding(crate::specs::Replies::node_line))]
 fn put_node(
     alloc: Global,
-    unit: &Unit,
     listing: &KeyList,
     place: usize,
-    key: Key,
+    name: Option<&Symbol>,
+    body: Option<&TypeTree>,
     out: &mut Text,
 ) -> Result<(), Memory>
     requires distinct { IsDistinct same_key listing.now.keys }
-    requires present { All (Contains listing.now.keys) (led_to unit.now key) }
-    ensures { OnOk result (out.new ≡ out.old ++ spec.node_line unit.now listing.now.keys place key) }
+    requires present { All (Contains listing.now.keys) (surface_keys (option_copied body)) }
+    ensures { OnOk result (out.new ≡ out.old ++ spec.node_line listing.now.keys place (option_copied name.entry) (option_copied body.entry)) }
 {
     put_number(place as u64, out)?;
     out.push(b' ')?;
-    put_name(unit, key, out)?;
+    put_name(name, out)?;
     out.push(b' ')?;
-    put_body(alloc, unit, listing, key, out)?;
+    put_body(alloc, listing, body, out)?;
     out.push(b'\n')
 }
 
@@ -77,8 +77,18 @@ fn put_nodes(alloc: Global, unit: &Unit, listing: &KeyList, out: &mut Text) -> R
     requires closed { IsClosed unit.now listing.now.keys }
     ensures { OnOk result (out.new ≡ out.old ++ spec.node_lines unit.now listing.now.keys 0 listing.now.keys) }
 {
+    let definitions = index(alloc, unit)?;
+    let names = names(alloc, unit)?;
     for (place, key) in listing.keys.items().iter().enumerate() {
-        put_node(alloc, unit, listing, place, *key, out)?;
+        let name = name_at(&names, *key);
+        put_node(
+            alloc,
+            listing,
+            place,
+            name,
+            body_at(&definitions, *key),
+            out,
+        )?;
     }
     Ok(())
 }

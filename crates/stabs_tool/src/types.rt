@@ -2,9 +2,10 @@
 //! one leads to.
 
 mod definitions;
-mod index;
+pub(crate) mod index;
 mod key_set;
 mod listing;
+pub(crate) mod names;
 mod unit;
 
 pub use definitions::{definition, find_tag, type_name};

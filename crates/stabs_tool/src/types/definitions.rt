@@ -27,7 +27,7 @@ pub(crate) fn outer_key(tree: &TypeTree) -> Option<Key>
     }
 }
 
-fn is_type_symbol(descriptor: Descriptor) -> bool
+pub(crate) fn is_type_symbol(descriptor: Descriptor) -> bool
     ensures { result ≡ spec.is_type_symbol descriptor }
 {
     matches!(

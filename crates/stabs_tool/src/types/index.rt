@@ -1,12 +1,13 @@
 ghost use Rattle.std.specs.Prelude.{◌≡◌, ℕ, IfOk, OnOk, flat_map};
+ghost use Rattle.std.specs.Option.{option_copied};
 ghost use Rattle.stab_grammar.specs.Definitions.{definitions_in};
-ghost use Rattle.stabs_tool.specs.Indexes.{IsIndex, body_in, main_key, noted, noted_all};
+ghost use Rattle.stabs_tool.specs.Indexes.{IsIndex, body_in, looked_up, main_key, noted, noted_all};
 ghost use Rattle.stabs_tool.specs.Searches.{defined, definitions_in_field};
 
 use crate::types::definitions::is_cross;
 use crate::types::unit::Unit;
 use st_base::{List, Memory};
-use stab_grammar::{Field, Num, TypeTree, key_of};
+use stab_grammar::{Field, Key, Num, TypeTree, key_of};
 use std::alloc::Global;
 use std::collections::BTreeMap;
 
@@ -97,4 +98,14 @@ pub fn index<'a>(alloc: Global, unit: &'a Unit) -> Result<BTreeMap<u32, &'a Type
         note_in(&mut index, &symbol.tree)?;
     }
     Ok(index)
+}
+
+/// What an index has for a key. Takes no memory.
+pub fn body_at<'a>(index: &BTreeMap<u32, &'a TypeTree>, key: Key) -> Option<&'a TypeTree>
+    ensures { option_copied result ≡ looked_up index.now key }
+{
+    if key.file != 0 {
+        return None;
+    }
+    index.get(&key.number).copied()
 }

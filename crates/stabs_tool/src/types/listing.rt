@@ -4,11 +4,11 @@ ghost use Rattle.stab_grammar.specs.Surface.{surface_of};
 ghost use Rattle.stabs_tool.specs.declared.types.unit.Unit.{Unit};
 ghost use Rattle.stabs_tool.specs.KeyLists.{joined, surface_of_field};
 ghost use Rattle.std.specs.Option.{option_copied};
-ghost use Rattle.stabs_tool.specs.Indexes.{IsIndex, looked_up};
+ghost use Rattle.stabs_tool.specs.Indexes.{IsIndex};
 ghost use Rattle.stabs_tool.specs.Listings.{IsListing, led_to, surface_keys};
 
 use crate::types::definitions::definition;
-use crate::types::index::index;
+use crate::types::index::{body_at, index};
 use crate::types::key_set::KeySet;
 use crate::types::unit::Unit;
 use st_base::{List, Memory};
@@ -67,19 +67,6 @@ fn add_surface_of_fields(found: &mut KeySet, fields: &List<Field>) -> Result<(),
     Ok(())
 }
 
-// The numbers on the surface of what an index has for a key.
-fn add_indexed(found: &mut KeySet, index: &BTreeMap<u32, &TypeTree>, key: Key) -> Result<(), Memory>
-    ensures { OnOk result (found.new ≡ joined found.old (surface_keys (looked_up index.now key))) }
-{
-    if key.file != 0 {
-        return Ok(());
-    }
-    match index.get(&key.number) {
-        Some(body) => add_surface(found, body),
-        None => Ok(()),
-    }
-}
-
 // The numbers on the surface of a definition, none where there is none.
 fn add_body(found: &mut KeySet, body: Option<&TypeTree>) -> Result<(), Memory>
     ensures { OnOk result (found.new ≡ joined found.old (surface_keys (option_copied body.entry))) }
@@ -105,7 +92,7 @@ fn add_led_to(
 {
     match index {
         None => add_body(found, definition(unit, key)),
-        Some(index) => add_indexed(found, index, key),
+        Some(index) => add_body(found, body_at(index, key)),
     }
 }
 
