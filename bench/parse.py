@@ -7,9 +7,11 @@ Four kinds of strings: a structure of many fields, fields whose types are 97 poi
 choices, and a structure whose fields have all forms of types. In a folder that is removed again the crates are copied, a
 program is made that parses a file so many times, and `rt run` builds it. The program is timed with few and with many
 turns, the least of several runs each, and the difference counts, so that its start does not. Behind the bytes a second
-stands how the time grows from the size before: 1.00 where it grows as the size does.
+stands how the time grows from the size before: 1.00 where it grows as the size does. Where valgrind is there, a second line
+has the instructions for each byte, and how many of them are those of the C library's allocator.
 """
 import os
+import re
 import shutil
 import subprocess
 import sys
@@ -176,6 +178,29 @@ def seconds_of(program, path, turns):
     return least
 
 
+def instructions(program, folder, path, turns):
+    """The instructions of a run, all and those in the C library's allocator, as valgrind counts them."""
+    counts = f"{folder}/counts"
+    words = ["valgrind", "--tool=callgrind", f"--callgrind-out-file={counts}", program, path, str(turns)]
+    subprocess.run(words, check=True, stderr=subprocess.DEVNULL)
+    listed = subprocess.run(["callgrind_annotate", "--threshold=100", counts], check=True, stdout=subprocess.PIPE).stdout.decode()
+    total, allocator = 0, 0
+    for count, name in re.findall(r"^ *([\d,]+) \([^)]*\)  (\S*:\S*)", listed, re.MULTILINE):
+        count = int(count.replace(",", ""))
+        total += count
+        if "/malloc/" in name or name.endswith(("rattle_alloc", "rattle_dealloc")):
+            allocator += count
+    return total, allocator
+
+
+def measure_instructions(program, folder, path, size):
+    few, many = 1, 2 + (1 << 21) // size
+    before = instructions(program, folder, path, few)
+    after = instructions(program, folder, path, many)
+    total, allocator = [(b - a) / (many - few) / size for a, b in zip(before, after)]
+    print(f"  {total:.0f} instructions a byte, {allocator:.0f} of them in the allocator", flush=True)
+
+
 def measure(program, folder, label, strings):
     before = None
     for size_label, size in SIZES:
@@ -191,6 +216,8 @@ def measure(program, folder, label, strings):
             growth = (seconds / before[1]) / (len(text) / before[0])
             line += f", time by size {growth:.2f}"
         print(line, flush=True)
+        if shutil.which("valgrind") and shutil.which("callgrind_annotate"):
+            measure_instructions(program, folder, path, len(text))
         before = (len(text), seconds)
 
 

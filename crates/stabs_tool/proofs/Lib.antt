@@ -11,6 +11,7 @@ pub mod ReachingLemmas
 pub mod KeepLemmas
 pub mod UsedKeyLemmas
 pub mod Refusals
+pub mod TextLemmas
 pub mod StringsLemmas
 pub mod SurveyLemmas
 pub mod ListedLemmas

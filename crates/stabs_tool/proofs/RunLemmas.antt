@@ -10,7 +10,7 @@ use Rattle.stabs_tool.specs.declared.words.Command.{Command}
 use Rattle.stabs_tool.specs.declared.words.Command.TheVariants.{TagNamed, Wrong}
 use Rattle.stabs_tool.specs.Words.{command_of}
 use Rattle.stabs_tool.specs.Replies.{usage}
-use Rattle.stabs_tool.specs.Promise.{Decided, AsDefined, Means, IsOutcome, IsInputOf, GainedFront}
+use Rattle.stabs_tool.specs.Promise.{Decided, AsDefined, Means, IsOutcome, IsInputOf, Gained, GainedFront}
 
 status_usage : (at : ℕ) → (usage at).status ≡ 2
 unfolding usage
@@ -35,14 +35,25 @@ as_means : (m : Contents) (asked : Command) (words : List (List ℕ)) (r : Reply
 as_means m (Wrong at) words r d = d
 as_means m (TagNamed number) words r d = d
 
+-- where loading did not fail, what was decided is an outcome
+pub decided_is : (held : Option Contents) (before now : ℕ) (last : Option (List ℕ)) (words : List (List ℕ)) (decided : Reply) (m : Contents)
+    → held ≡ Some m → (Rose before now → ⊥) → Decided held before now last (command_of words) words decided → IsOutcome words m decided
+decided_is held before now last words decided m told calm d =
+    let said : AsDefined (Some m) (command_of words) words decided
+    = subst (λ (h : Option Contents). AsDefined h (command_of words) words decided) told (d.defined (λ six. calm (d.read six).0)) in
+    as_means m (command_of words) words decided said
+
 module _ (one_outcome : (words : List (List ℕ)) (m : Contents) (r other : Reply) → IsOutcome words m r → IsOutcome words m other → r ≡ other) where
-  -- where loading did not fail, what was decided is the outcome
+  -- and it is the one outcome
   pub decided_once : (held : Option Contents) (before now : ℕ) (last : Option (List ℕ)) (words : List (List ℕ)) (decided : Reply) (m : Contents) (r : Reply)
       → held ≡ Some m → (Rose before now → ⊥) → IsOutcome words m r → Decided held before now last (command_of words) words decided → decided ≡ r
   decided_once held before now last words decided m r told calm is d =
-      let said : AsDefined (Some m) (command_of words) words decided
-      = subst (λ (h : Option Contents). AsDefined h (command_of words) words decided) told (d.defined (λ six. calm (d.read six).0)) in
-      one_outcome words m decided r (as_means m (command_of words) words decided said) is
+      one_outcome words m decided r (decided_is held before now last words decided m told calm d) is
+
+-- a put that is done is what the sink gained
+pub gained_of_done : (old new : Option (List ℕ)) (before now : ℕ) (bytes text : List ℕ) → bytes ≡ text → Puts old new before now bytes put.Done → Gained old new text
+gained_of_done None new before now bytes text is h = tt
+gained_of_done (Some written) new before now bytes text is h = h ∙ ap (λ (z : List ℕ). Some (written ++ z)) is
 
 -- all of a text is a front of it
 pub front_of_done : (old new : Option (List ℕ)) (before now : ℕ) (bytes text : List ℕ) → bytes ≡ text → Puts old new before now bytes put.Done → GainedFront old new text

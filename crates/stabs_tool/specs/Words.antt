@@ -1,6 +1,6 @@
 -- What the words of a command line ask. This is this project's own.
-use Rattle.std.specs.Prelude.{◌<◌, ℕ, List, [], ◌∷◌, length, codes, if◌then◌else◌, Option, Some, None}
-use Rattle.std.specs.Str.{bytes_eq}
+use Rattle.std.specs.Prelude.{◌<◌, ℕ, nat_lt, Bool, not, List, [], ◌∷◌, length, position, codes, if◌then◌else◌, Option, Some, None}
+use Rattle.std.specs.Str.{bytes_eq, is_utf8}
 use Rattle.std.specs.Result.{result_ok}
 use Rattle.readers.specs.Readers.{whole_of}
 use Rattle.readers.specs.Words.{number_at}
@@ -39,10 +39,30 @@ abbrev pub from_file : List (List ℕ) → Command
 from_file [] = Wrong 1
 from_file (file ∷ words) = from_tag words
 
+-- the whole line
+abbrev pub from_words : List (List ℕ) → Command
+from_words [] = Wrong 0
+from_words (word ∷ words) = if bytes_eq word (codes "query") then from_file words else Wrong 0
+
+-- ---- words that are no text
+
+-- the word is not UTF-8, and so it is wrong wherever it stands
+abbrev pub is_no_text : List ℕ → Bool
+is_no_text word = not (is_utf8 word)
+
+-- the lesser of two places
+abbrev pub earlier : ℕ → ℕ → ℕ
+earlier place other = if nat_lt place other then place else other
+
+-- what is asked where the word at this place is wrong: the first wrong word is told
+abbrev pub wrong_too : Option ℕ → Command → Command
+wrong_too None command = command
+wrong_too (Some place) (Wrong word) = Wrong (earlier place word)
+wrong_too (Some place) (TagNamed unit) = Wrong place
+
 -- what the words ask, or the place of the first wrong word, of the first one too many, or of the one that is missing
 abbrev pub command_of : List (List ℕ) → Command
-command_of [] = Wrong 0
-command_of (word ∷ words) = if bytes_eq word (codes "query") then from_file words else Wrong 0
+command_of words = wrong_too (position is_no_text words) (from_words words)
 
 -- the words that a command names are there
 abbrev pub IsWithin : Command → List (List ℕ) → Type 0

@@ -171,6 +171,35 @@ fn words_behind_tag_are_told(rt: HostRuntime) -> Result<(), Fail> {
 }
 
 #[test]
+fn words_that_are_not_utf_8_are_told(rt: HostRuntime) -> Result<(), Fail> {
+    let alloc = rt.alloc();
+    expect(&rt, alloc, b"\xff", 2, b"usage: word 0\n")?;
+    expect(
+        &rt,
+        alloc,
+        b"query \xe9.o tag 0 list",
+        2,
+        b"usage: word 1\n",
+    )?;
+    expect(&rt, alloc, b"query a.o tag 01 \xff", 2, b"usage: word 3\n")?;
+    expect(&rt, alloc, b"query a.o tag 0 \xc3", 2, b"usage: word 4\n")?;
+    expect(
+        &rt,
+        alloc,
+        b"query a.o tag 0 list \xff",
+        2,
+        b"usage: word 5\n",
+    )?;
+    expect(
+        &rt,
+        alloc,
+        b"query \xc3\xa9.o tag 0 list",
+        5,
+        b"absent \\xc3\\xa9.o\n",
+    )
+}
+
+#[test]
 fn a_load_that_fails_is_a_read_fault(rt: HostRuntime) -> Result<(), Fail> {
     let alloc = rt.alloc();
     let words = split(alloc, b"query a.o tag 0 list")?;

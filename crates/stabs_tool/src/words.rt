@@ -1,8 +1,9 @@
-ghost use Rattle.std.specs.Prelude.{◌≡◌, ◌<◌, ◌^◌, ℕ, Some, IfSome, decimal};
+ghost use Rattle.std.specs.Prelude.{◌≡◌, position};
 ghost use Rattle.stabs_tool.specs.Words as spec;
 
 use readers::whole_number;
 use st_base::Text;
+use std::str::from_utf8;
 
 /// What the words ask, the operands by their places.
 #[derive(Clone, Copy, Debug, Drop, PartialEq, Eq)]
@@ -60,9 +61,8 @@ fn from_file(words: &[Text]) -> Command
     }
 }
 
-/// What the words ask. Takes no memory.
-pub fn read_command(words: &[Text]) -> Command
-    ensures value { result ≡ spec.command_of words.now }
+fn from_words(words: &[Text]) -> Command
+    ensures value { result ≡ spec.from_words words.now }
     ensures within { spec.IsWithin result words.now }
 {
     match words {
@@ -74,5 +74,30 @@ pub fn read_command(words: &[Text]) -> Command
                 Command::Wrong(0)
             }
         }
+    }
+}
+
+fn is_no_text(word: &Text) -> bool
+    ensures { result ≡ spec.is_no_text word.now }
+{
+    from_utf8(word.bytes()).is_err()
+}
+
+/// The place of the first word that is not UTF-8.
+fn first_no_text(words: &[Text]) -> Option<usize>
+    ensures { result ≡ position spec.is_no_text words.now }
+{
+    words.iter().position(is_no_text)
+}
+
+/// What the words ask. A word that is not UTF-8 is wrong wherever it stands. Takes no memory.
+pub fn read_command(words: &[Text]) -> Command
+    ensures value { result ≡ spec.command_of words.now }
+    ensures within { spec.IsWithin result words.now }
+{
+    match (first_no_text(words), from_words(words)) {
+        (None, command) => command,
+        (Some(place), Command::Wrong(word)) if word <= place => Command::Wrong(word),
+        (Some(place), _) => Command::Wrong(place),
     }
 }

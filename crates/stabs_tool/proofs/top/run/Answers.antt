@@ -1,7 +1,16 @@
-use Rattle.std.proofs.Common.{ap, ◌∙◌, inr}
+use Rattle.std.proofs.Common.{ap, ◌∙◌, inr, refl}
 use Rattle.stabs_tool.specs.declared.reply.Reply.{Reply}
-use Rattle.stabs_tool.proofs.RunLemmas.{usage_answers, decided_once, front_of_done, front_of_failed}
+use Rattle.stabs_tool.proofs.RunLemmas.{usage_answers, decided_is, decided_once, gained_of_done, front_of_done, front_of_failed}
 use Rattle.stabs_tool.proofs.top.run.Goals as goal
+
+-- what was decided is the outcome, and all of its text was printed
+pub returns-in-Done-clause-complete : goal.returns-in-Done-clause-complete
+returns-in-Done-clause-complete g c = λ m told calm well. inr (
+  c.in-Ok.reply,
+  decided_is _ _ _ _ c.args.words.now c.in-Ok.reply m told calm c.in-Ok.ensures.answer,
+  refl,
+  gained_of_done _ _ _ _ c.bytes.result.now c.in-Ok.reply.text c.bytes.ensures c.in-Done.ensures.answer,
+)
 
 -- what was decided for words that are no command is their usage
 pub returns-in-Done-clause-wrong : goal.returns-in-Done-clause-wrong

@@ -1,0 +1,109 @@
+//! The words of the command line, as bytes. What a runtime hands over is known to no clause.
+
+use st_base::{List, Memory, Text};
+use std::alloc::{AllocError, Global};
+use std::env::FillError;
+use std::rt::Env;
+
+/// The least and the greatest room for a word in powers of two: 4 KiB and 2 GiB.
+const LEAST: u32 = 12;
+
+const GREATEST: u32 = 31;
+
+/// What asking for a word came to.
+enum Asked {
+    Word(Text),
+    /// It is longer than the room.
+    Long,
+    /// There is none at the place.
+    Behind,
+}
+
+fn room_of(alloc: Global, size: usize) -> Result<Vec<u8>, AllocError> {
+    vec![in alloc; 0u8; size]
+}
+
+/// Asks for the word at a place, with room for so many bytes.
+fn ask<R: Env>(alloc: Global, rt: &R, at: usize, size: usize) -> Result<Asked, Memory> {
+    let mut room = room_of(alloc, size)?;
+    match rt.arg(at, &mut room) {
+        Ok(len) => {
+            let mut word = Text::new(alloc);
+            word.extend(&room[..len])?;
+            Ok(Asked::Word(word))
+        }
+        Err(FillError::TooLong) => Ok(Asked::Long),
+        Err(FillError::NotPresent) => Ok(Asked::Behind),
+    }
+}
+
+/// The word at a place; none behind the last.
+fn word_at<R: Env>(alloc: Global, rt: &R, at: usize) -> Result<Option<Text>, Memory> {
+    for power in LEAST..=GREATEST {
+        match ask(alloc, rt, at, 1 << power)? {
+            Asked::Word(word) => return Ok(Some(word)),
+            Asked::Long => {}
+            Asked::Behind => return Ok(None),
+        }
+    }
+    Err(Memory)
+}
+
+/// The words behind the program's name.
+pub fn words_of<R: Env>(alloc: Global, rt: &R) -> Result<List<Text>, Memory> {
+    let mut words = List::new(alloc);
+    for at in 1..usize::MAX {
+        match word_at(alloc, rt, at)? {
+            Some(word) => words.push(word)?,
+            None => break,
+        }
+    }
+    Ok(words)
+}
+
+#[cfg(test)]
+mod tests {
+    use super::*;
+    use std::test::Fail;
+
+    /// A runtime whose arguments are the program's name, a word that is not UTF-8, no bytes, and a word of 5000 bytes.
+    struct Words;
+
+    const LONG: [u8; 5000] = [b'a'; 5000];
+
+    impl Env for Words {
+        fn arg(&self, i: usize, buf: &mut [u8]) -> Result<usize, FillError> {
+            let word = match i {
+                0 => b"stabs".as_slice(),
+                1 => b"\xe9.o".as_slice(),
+                2 => b"".as_slice(),
+                3 => LONG.as_slice(),
+                _ => return Err(FillError::NotPresent),
+            };
+            if buf.len() < word.len() {
+                return Err(FillError::TooLong);
+            }
+            buf[..word.len()].copy_from_slice(word);
+            Ok(word.len())
+        }
+
+        fn var(&self, _name: &str, _buf: &mut [u8]) -> Result<usize, FillError> {
+            Err(FillError::NotPresent)
+        }
+
+        fn var_at(&self, _i: usize, _buf: &mut [u8]) -> Result<usize, FillError> {
+            Err(FillError::NotPresent)
+        }
+    }
+
+    #[test]
+    fn words_are_taken_as_they_are(rt: HostRuntime) -> Result<(), Fail> {
+        let words = words_of(rt.alloc(), &Words)?;
+        let words = words.items();
+        assert_eq!(rt; words.len(), 3);
+        for (word, expected) in words.iter().zip([b"\xe9.o".as_slice(), b"", &LONG]) {
+            assert_eq!(rt; word.bytes(), expected);
+        }
+        Ok(())
+    }
+}
