@@ -1,12 +1,11 @@
 -- An index of definitions: what is noted of the definitions in a type by its forms; and that noting all definitions of a unit,
 -- one after another, gives the definition of each key.
 use Rattle.std.proofs.Common.{◌≡◌, ℕ, ◌+◌, ◌<◌, length, drop, get_or, Bool, true, false, List, [], ◌∷◌, ◌++◌, refl, sym, ap, ◌∙◌, ⊎_elim, cond, OnOk}
-use Rattle.std.specs.Prelude.{◌&&◌, ◌==◌, not, Option, Some, None, Result, Ok, Err, flat_map}
+use Rattle.std.specs.Prelude.{◌&&◌, not, Option, Some, None, Result, Ok, Err, flat_map}
 use Rattle.std.specs.List.{find}
 use Rattle.std.specs.BTreeMap.{BTreeMap}
 use Rattle.std.specs.Borrow.{Bor}
 use Rattle.std.proofs.lemmas.List.{drop_more}
-use Rattle.std.proofs.lemmas.Bool.{eqb-true}
 use Rattle.stab_grammar.specs.declared.tree.Key.{Key}
 use Rattle.stab_grammar.specs.declared.tree.Num.{Num}
 use Rattle.stab_grammar.specs.declared.tree.Numeral.{Numeral}
@@ -19,7 +18,7 @@ use Rattle.stabs_tool.specs.declared.types.unit.Unit.{Unit}
 use Rattle.stabs_tool.specs.Units.{definitions_of, definition_of, first_of, body_of, or_else, is_full, is_any}
 use Rattle.stabs_tool.specs.Searches.{defined}
 use Rattle.stabs_tool.specs.Indexes.{better, noted, noted_all, main_key, body_in, looked_up}
-use Rattle.stabs_tool.proofs.KeyLemmas.{which}
+use Rattle.stabs_tool.proofs.KeyLemmas.{which, by_number}
 
 -- ---- noting is finding the first
 
@@ -112,20 +111,11 @@ noted-behind {A} definitions key before after xs at x r within is more all =
 
 -- ---- what a finished index says
 
-abbrev with_file : Key → ℕ → Key
-with_file key file = record { file = file; number = key.number }
-
 -- an index that has noted all definitions of a unit gives the definition of each key
 pub looked_up-definition : (index : BTreeMap ℕ (Bor TypeTree)) (unit : Unit) → ((n : ℕ) → body_in index n ≡ noted_all (main_key n) None (definitions_of unit))
     → (key : Key) → looked_up index key ≡ definition_of unit key
-looked_up-definition index unit says key = ⊎_elim
-    (λ main. ap (λ (b : Bool). cond b (body_in index key.number) None) main ∙ says key.number ∙ noted-first (main_key key.number) (definitions_of unit)
-    ∙ ap (λ (k : Key). first_of k (definitions_of unit)) (whole main) ∙ sym (ap (λ (b : Bool). cond b (first_of key (definitions_of unit)) None) main))
-    (λ other. ap (λ (b : Bool). cond b (body_in index key.number) None) other ∙ sym (ap (λ (b : Bool). cond b (first_of key (definitions_of unit)) None) other))
-    (which (key.file == 0))
-  where
-    whole : (key.file == 0) ≡ true → main_key key.number ≡ key
-    whole main = ap (λ (z : ℕ). with_file key z) (sym (eqb-true key.file 0 main))
+looked_up-definition index unit says =
+    by_number (body_in index) (λ key. first_of key (definitions_of unit)) (λ n. says n ∙ noted-first (main_key n) (definitions_of unit))
 
 -- what follows from what a call did follows where it did it
 pub on_ok : {A E P Q : Type 0} (r : Result A E) → OnOk r P → (P → Q) → OnOk r Q

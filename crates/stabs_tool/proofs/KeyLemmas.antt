@@ -1,7 +1,8 @@
 -- Keys: the test of two keys decides whether they are one, and it is what their order says.
-use Rattle.std.proofs.Common.{◌≡◌, ℕ, Bool, true, false, refl, ap, ◌∙◌, ◌⊎◌, inl, inr, arith, Ordering}
+use Rattle.std.proofs.Common.{◌≡◌, ℕ, Bool, true, false, refl, sym, ap, ◌∙◌, ◌⊎◌, ⊎_elim, inl, inr, cond, arith, Ordering}
+use Rattle.std.proofs.lemmas.Bool.{eqb-true}
 use Rattle.std.proofs.lemmas.Bool.Decides.{nat_tests}
-use Rattle.std.specs.Prelude.{◌&&◌, ◌==◌}
+use Rattle.std.specs.Prelude.{◌&&◌, ◌==◌, Option, None}
 use Rattle.std.specs.declared.cmp.Ordering.TheVariants.{Less, Equal, Greater}
 use Rattle.std.specs.Bool.{Decides}
 use Rattle.std.specs.Ordering.{is_eq, nat_cmp, ordering_then}
@@ -9,6 +10,7 @@ use Rattle.std.specs.Cmp.{IsEquivalence, decided}
 use Rattle.std.proofs.lemmas.Bool.Decides.{Decides-eqb, Decides-and, Decides-like}
 use Rattle.stab_grammar.specs.declared.tree.Key.{Key}
 use Rattle.stab_grammar.specs.Surface.{same_key}
+use Rattle.stabs_tool.specs.Indexes.{main_key}
 
 -- a test answers yes or no
 pub which : (b : Bool) → (b ≡ true) ⊎ (b ≡ false)
@@ -30,6 +32,24 @@ same_key-decides k l = Decides-like (same_key k l) (from_parts k l) (to_parts k 
 
 pub same_key-laws : IsEquivalence same_key
 same_key-laws = decided same_key same_key-decides
+
+-- ---- keys of file 0
+
+abbrev with_file : Key → ℕ → Key
+with_file key file = record { file = file; number = key.number }
+
+-- a key of file 0 is that of its number
+whole : (key : Key) → (key.file == 0) ≡ true → main_key key.number ≡ key
+whole key main = ap (with_file key) (sym (eqb-true key.file 0 main))
+
+-- what is found by a number of file 0 is what is sought by its key, where other keys have none
+pub by_number : {A : Type 0} (found : ℕ → Option A) (sought : Key → Option A) → ((n : ℕ) → found n ≡ sought (main_key n))
+    → (key : Key) → cond (key.file == 0) (found key.number) None ≡ cond (key.file == 0) (sought key) None
+by_number found sought says key = ⊎_elim
+    (λ main. ap (λ (b : Bool). cond b (found key.number) None) main ∙ says key.number ∙ ap sought (whole key main)
+    ∙ sym (ap (λ (b : Bool). cond b (sought key) None) main))
+    (λ other. ap (λ (b : Bool). cond b (found key.number) None) other ∙ sym (ap (λ (b : Bool). cond b (sought key) None) other))
+    (which (key.file == 0))
 
 -- ---- the order of keys
 

@@ -1,26 +1,25 @@
 -- Names by number: noting all symbols of a unit, one after another, gives the symbol that names each key.
-use Rattle.std.proofs.Common.{◌≡◌, ℕ, ◌+◌, ◌<◌, length, drop, get_or, Bool, true, false, List, [], ◌∷◌, refl, sym, ap, ◌∙◌, ⊎_elim, cond}
-use Rattle.std.specs.Prelude.{◌==◌, Option, Some, None}
+use Rattle.std.proofs.Common.{◌≡◌, ℕ, ◌+◌, ◌<◌, length, drop, get_or, Bool, true, false, List, [], ◌∷◌, refl, sym, ap, ◌∙◌, cond}
+use Rattle.std.specs.Prelude.{Option, Some, None}
 use Rattle.std.specs.List.{find}
 use Rattle.std.specs.BTreeMap.{BTreeMap}
 use Rattle.std.specs.Borrow.{Bor}
 use Rattle.std.proofs.lemmas.List.{drop_more}
-use Rattle.std.proofs.lemmas.Bool.{eqb-true}
 use Rattle.stab_grammar.specs.declared.tree.Key.{Key}
 use Rattle.stab_grammar.specs.declared.tree.Symbol.{Symbol}
 use Rattle.stabs_tool.specs.declared.types.unit.Unit.{Unit}
 use Rattle.stabs_tool.specs.Units.{or_else, is_name, name_of}
 use Rattle.stabs_tool.specs.Indexes.{main_key, named, symbol_in, named_by}
-use Rattle.stabs_tool.proofs.KeyLemmas.{which}
+use Rattle.stabs_tool.proofs.KeyLemmas.{by_number}
 
--- what is known, or else the first that names the key in a list, is what is known with the list's first symbol, or else the first in the rest
-named-first : (b : Bool) (known rest : Option Symbol) (s : Symbol) → or_else (cond b (Some s) None) rest ≡ cond b (Some s) rest
-named-first true known rest s = refl
-named-first false known rest s = refl
+-- what is known, or else the first of a list that names the key, is what is known with the list's head, or else the first of its tail
+named-first : (b : Bool) (rest : Option Symbol) (s : Symbol) → or_else (cond b (Some s) None) rest ≡ cond b (Some s) rest
+named-first true rest s = refl
+named-first false rest s = refl
 
 named-cons : (key : Key) (known : Option Symbol) (s : Symbol) (ss : List Symbol)
     → or_else (named key known s) (find (is_name key) ss) ≡ or_else known (find (is_name key) (s ∷ ss))
-named-cons key None s ss = named-first (is_name key s) None (find (is_name key) ss) s
+named-cons key None s ss = named-first (is_name key s) (find (is_name key) ss) s
 named-cons key (Some old) s ss = refl
 
 -- one symbol more
@@ -46,17 +45,7 @@ pub named-all : (key : Key) (known : Option Symbol) (xs rest : List Symbol) → 
 named-all key known xs rest none all =
     sym (or_else-None known) ∙ ap (λ (z : List Symbol). or_else known (find (is_name key) z)) (sym none) ∙ all
 
-abbrev with_file : Key → ℕ → Key
-with_file key file = record { file = file; number = key.number }
-
 -- names that have noted all symbols of a unit give the name of each key
 pub named_by-name : (names : BTreeMap ℕ (Bor Symbol)) (unit : Unit) → ((n : ℕ) → symbol_in names n ≡ find (is_name (main_key n)) unit.symbols)
     → (key : Key) → named_by names key ≡ name_of unit key
-named_by-name names unit says key = ⊎_elim
-    (λ main. ap (λ (b : Bool). cond b (symbol_in names key.number) None) main ∙ says key.number
-    ∙ ap (λ (k : Key). find (is_name k) unit.symbols) (whole main) ∙ sym (ap (λ (b : Bool). cond b (find (is_name key) unit.symbols) None) main))
-    (λ other. ap (λ (b : Bool). cond b (symbol_in names key.number) None) other ∙ sym (ap (λ (b : Bool). cond b (find (is_name key) unit.symbols) None) other))
-    (which (key.file == 0))
-  where
-    whole : (key.file == 0) ≡ true → main_key key.number ≡ key
-    whole main = ap (λ (z : ℕ). with_file key z) (sym (eqb-true key.file 0 main))
+named_by-name names unit says = by_number (symbol_in names) (λ key. find (is_name key) unit.symbols) says

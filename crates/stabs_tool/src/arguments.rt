@@ -1,13 +1,14 @@
 //! The words of the command line, as bytes. What a runtime hands over is known to no clause.
 
 use st_base::{List, Memory, Text};
-use std::alloc::{AllocError, Global};
+use std::alloc::Global;
 use std::env::FillError;
 use std::rt::Env;
 
-/// The least and the greatest room for a word in powers of two: 4 KiB and 2 GiB.
+/// The room for a word at first, as a power of two: 4 KiB.
 const LEAST: u32 = 12;
 
+/// The most room for a word, as a power of two: 2 GiB.
 const GREATEST: u32 = 31;
 
 /// What asking for a word came to.
@@ -19,13 +20,9 @@ enum Asked {
     Behind,
 }
 
-fn room_of(alloc: Global, size: usize) -> Result<Vec<u8>, AllocError> {
-    vec![in alloc; 0u8; size]
-}
-
 /// Asks for the word at a place, with room for so many bytes.
 fn ask<R: Env>(alloc: Global, rt: &R, at: usize, size: usize) -> Result<Asked, Memory> {
-    let mut room = room_of(alloc, size)?;
+    let mut room = vec![in alloc; 0u8; size]?;
     match rt.arg(at, &mut room) {
         Ok(len) => {
             let mut word = Text::new(alloc);
