@@ -1,5 +1,6 @@
+mod BaseExamples
+mod Examples
 pub mod BytesLemmas
 pub mod CheckLemmas
-mod Examples
 pub mod FieldLemmas
 pub mod NumberLemmas

@@ -3,4 +3,5 @@ pub mod Faults
 pub mod Lending
 pub mod Number
 pub mod Shown
+pub mod Stabs
 pub mod formers

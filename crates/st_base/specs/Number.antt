@@ -1,5 +1,5 @@
 -- The number that a field's bytes spell in either byte order. After a.out(5), whose words are in the machine's order.
-use Rattle.std.specs.Prelude.{ℕ, zero, suc, ◌+◌, ◌*◌, ◌<◌, Bool, true, false, if◌then◌else◌, List, [], ◌∷◌, ◌++◌, take, drop}
+use Rattle.std.specs.Prelude.{ℕ, zero, suc, ◌+◌, ◌*◌, ◌<◌, nat_le, Bool, true, false, if◌then◌else◌, List, [], ◌∷◌, ◌++◌, length, take, drop, Option, Some, None}
 use Rattle.std.specs.Int.{byte_at}
 
 -- the most significant byte first, behind a number that stands before them
@@ -20,6 +20,10 @@ number false bytes = little bytes
 -- the number of the `size` bytes at a place
 abbrev pub number_at : Bool → List ℕ → ℕ → ℕ → ℕ
 number_at big bytes at size = number big (take size (drop at bytes))
+
+-- the number of the first four bytes, where there are four
+abbrev pub first_word : Bool → List ℕ → Option ℕ
+first_word big bytes = if nat_le 4 (length bytes) then Some (number_at big bytes 0 4) else None
 
 -- each item is a byte
 abbrev pub IsBytes : List ℕ → Type 0

@@ -1,3 +1,6 @@
+ghost use Rattle.std.specs.Prelude.{◌≡◌};
+ghost use Rattle.st_base.specs.Faults.{fault_at};
+
 use std::alloc::{AllocError, AllocFailed};
 
 // The numbers of all faults of these tools, also of those to come, so that one number never has two meanings. Each line gives the cause, then the place and within of the fault; where within is not told it is 0.
@@ -131,6 +134,19 @@ pub struct Fault {
     pub number: u16,
     pub place: u64,
     pub within: u64,
+}
+
+impl Fault {
+    /// The fault with this number and place that needs no more to tell where it is. Takes no memory.
+    pub fn at(number: u16, place: u64) -> Fault
+        ensures { result ≡ fault_at number place }
+    {
+        Fault {
+            number,
+            place,
+            within: 0,
+        }
+    }
 }
 
 /// Why a call refuses: a fault of its input, or want of memory.

@@ -1,6 +1,8 @@
-ghost use Rattle.std.specs.Prelude.{◌≡◌, ◌+◌, ◌^◌, ◌<◌, ◌≤◌, ◌⊎◌, List, ℕ, length, take, drop};
-ghost use Rattle.st_base.specs.Number.{number, number_at, bytes_of, with_number_at, IsBytes};
+ghost use Rattle.std.specs.Prelude.{◌≡◌, ◌+◌, ◌^◌, ◌<◌, ◌≤◌, ◌⊎◌, ◌++◌, List, ℕ, length, take, drop};
+ghost use Rattle.st_base.specs.Number.{number, number_at, bytes_of, with_number_at, first_word as the_first_word, IsBytes};
+ghost use Rattle.st_base.specs.ByteOrder.{is_big};
 
+use crate::order::Order;
 use byteorder::{BigEndian, ByteOrder, LittleEndian};
 
 /// A record of `SIZE` bytes whose numbers have their most significant byte first where `BIG` holds, else
@@ -117,6 +119,28 @@ impl<const BIG: bool, const SIZE: usize> Layout<BIG, SIZE> {
     }
 }
 
+/// The number of the first four bytes in this byte order; `None` exactly where there are fewer. Takes no memory.
+pub fn first_word(order: Order, bytes: &[u8]) -> Option<u32>
+    ensures { result ≡ the_first_word (is_big order) bytes.now }
+{
+    let (word, _) = bytes.split_first_chunk::<4>()?;
+    Some(match order {
+        Order::Little => Layout::<false, 4>::get_u32(word, 0),
+        Order::Big => Layout::<true, 4>::get_u32(word, 0),
+    })
+}
+
+/// Sets the first four bytes to a number in this byte order; the bytes behind them stay. Takes no memory.
+pub fn set_first_word(order: Order, bytes: &mut [u8], word: u32)
+    requires { 4 ≤ length bytes.old }
+    ensures { bytes.new ≡ bytes_of (is_big order) 4 word ++ drop 4 bytes.old }
+{
+    match order {
+        Order::Little => LittleEndian::write_u32(bytes, word),
+        Order::Big => BigEndian::write_u32(bytes, word),
+    }
+}
+
 /// A number has one spelling in so many bytes: fields with equal numbers hold equal bytes.
 pub fn one_spelling<const BIG: bool>()
     ensures { (x y : List ℕ) → IsBytes x → IsBytes y → length x ≡ length y → number BIG x ≡ number BIG y → x ≡ y }
@@ -140,52 +164,3 @@ pub fn field_laws<const BIG: bool, const SIZE: usize>()
         → (other + other_size ≤ at) ⊎ (at + size ≤ other)
         → number_at BIG (with_number_at BIG bytes at size value) other other_size ≡ number_at BIG bytes other other_size }
 {}
-
-#[cfg(test)]
-mod tests {
-    use super::*;
-
-    #[test]
-    fn each_width_is_set_and_read_in_big_order(rt: HostRuntime) {
-        let mut bytes = [0xee; 12];
-        Layout::<true, 12>::put_u8(&mut bytes, 1, 0x11);
-        Layout::<true, 12>::put_u16(&mut bytes, 2, 0x2122);
-        Layout::<true, 12>::put_u24(&mut bytes, 4, 0x31_3233);
-        Layout::<true, 12>::put_u32(&mut bytes, 7, 0x4142_4344);
-        let expected = [
-            0xee, // before the first field
-            0x11, // one byte
-            0x21, 0x22, // two bytes
-            0x31, 0x32, 0x33, // three bytes
-            0x41, 0x42, 0x43, 0x44, // four bytes
-            0xee, // behind the last field
-        ];
-        assert_eq!(rt; bytes, expected);
-        assert_eq!(rt; Layout::<true, 12>::get_u8(&bytes, 1), 0x11);
-        assert_eq!(rt; Layout::<true, 12>::get_u16(&bytes, 2), 0x2122);
-        assert_eq!(rt; Layout::<true, 12>::get_u24(&bytes, 4), 0x31_3233);
-        assert_eq!(rt; Layout::<true, 12>::get_u32(&bytes, 7), 0x4142_4344);
-    }
-
-    #[test]
-    fn each_width_is_set_and_read_in_little_order(rt: HostRuntime) {
-        let mut bytes = [0xee; 12];
-        Layout::<false, 12>::put_u8(&mut bytes, 1, 0x11);
-        Layout::<false, 12>::put_u16(&mut bytes, 2, 0x2122);
-        Layout::<false, 12>::put_u24(&mut bytes, 4, 0x31_3233);
-        Layout::<false, 12>::put_u32(&mut bytes, 7, 0x4142_4344);
-        let expected = [
-            0xee, // before the first field
-            0x11, // one byte
-            0x22, 0x21, // two bytes
-            0x33, 0x32, 0x31, // three bytes
-            0x44, 0x43, 0x42, 0x41, // four bytes
-            0xee, // behind the last field
-        ];
-        assert_eq!(rt; bytes, expected);
-        assert_eq!(rt; Layout::<false, 12>::get_u8(&bytes, 1), 0x11);
-        assert_eq!(rt; Layout::<false, 12>::get_u16(&bytes, 2), 0x2122);
-        assert_eq!(rt; Layout::<false, 12>::get_u24(&bytes, 4), 0x31_3233);
-        assert_eq!(rt; Layout::<false, 12>::get_u32(&bytes, 7), 0x4142_4344);
-    }
-}

@@ -1,6 +1,6 @@
 //! What every other crate stands on: growing texts and lists, want of memory and faults, numbers in
-//! either byte order at a place of a record, the shown form of a text, and a counter of steps that only
-//! contracts see. Nothing here knows of stabs or of a.out files.
+//! either byte order at a place of a record, the shown form of a text, a counter of steps that only contracts
+//! see, and the sizes, limits and numbers of faults that several crates name.
 //!
 //! The law that the layers above use: a field that is read is the number of its bytes, a field that is set is read
 //! as what it was set to, and all other bytes stay.
@@ -12,6 +12,7 @@ mod layout;
 mod list;
 mod order;
 mod shown;
+mod sizes;
 mod steps;
 mod text;
 
@@ -24,9 +25,12 @@ pub use fault::{
     OUTSIDE, OVERFLOW, PAST, QUERY, RELOC_BYTES, Refused, SEGMENT, SYMBOL, SYMBOL_BYTES, TOO_LARGE,
     TRAILING, TRUNCATED, TWICE, UNBUILT, UNDEFINED,
 };
-pub use layout::{Layout, field_laws, number_laws, one_spelling};
+pub use layout::{Layout, field_laws, first_word, number_laws, one_spelling, set_first_word};
 pub use list::List;
 pub use order::Order;
 pub use shown::show;
+pub use sizes::{
+    ENTRY_SIZE, FILE_LIMIT, GREATEST_ADDRESS, HEADER_SIZE, LEAST_STAB, RELOC_SIZE, WORD_SIZE,
+};
 pub use steps::Steps;
 pub use text::Text;

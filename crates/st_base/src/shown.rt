@@ -57,29 +57,3 @@ pub fn show(out: &mut Text, bytes: &[u8]) -> Result<(), Memory>
         _ => show_each(out, bytes),
     }
 }
-
-#[cfg(test)]
-mod tests {
-    use super::*;
-    use std::test::Fail;
-
-    #[test]
-    fn texts_are_shown(rt: HostRuntime) -> Result<(), Fail> {
-        let rows = [
-            (b"int".as_slice(), b"int".as_slice()),
-            (b"".as_slice(), b"-".as_slice()),
-            (b"-".as_slice(), b"\\x2d".as_slice()),
-            (b"--".as_slice(), b"--".as_slice()),
-            (
-                b"long int\\\x00\x7f\xff!~".as_slice(),
-                b"long\\x20int\\x5c\\x00\\x7f\\xff!~".as_slice(),
-            ),
-        ];
-        for (bytes, expected) in rows {
-            let mut out = Text::new(rt.alloc());
-            show(&mut out, bytes)?;
-            assert_eq!(rt; out.bytes(), expected);
-        }
-        Ok(())
-    }
-}

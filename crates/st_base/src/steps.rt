@@ -40,14 +40,3 @@ impl<L: Ledger> Steps<L> {
         self.book.add(&mut self.share, 1);
     }
 }
-
-#[cfg(test)]
-mod tests {
-    use super::*;
-    use std::marker::Brand;
-
-    #[test]
-    fn a_counter_has_no_bytes(rt: HostRuntime) {
-        assert_eq!(rt; std::mem::size_of::<Steps<Brand>>(), 0);
-    }
-}

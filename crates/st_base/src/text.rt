@@ -31,6 +31,14 @@ impl Text {
         }
     }
 
+    /// A text of these bytes.
+    pub fn of(alloc: Global, bytes: &[u8]) -> Result<Text, Memory>
+        ensures { IfOk result (λ t. t ≡ bytes.now) }
+    {
+        let bytes = Vec::from_slice(alloc, bytes)?;
+        Ok(Text { bytes })
+    }
+
     /// Appends a byte, or changes nothing.
     pub fn push(&mut self, byte: u8) -> Result<(), Memory>
         ensures ok { OnOk result (self.new ≡ self.old ++ byte ∷ []) }
@@ -60,8 +68,7 @@ impl Text {
     pub fn copy(&self, alloc: Global) -> Result<Text, Memory>
         ensures { IfOk result (λ t. t ≡ self.now) }
     {
-        let bytes = Vec::from_slice(alloc, self.bytes.as_slice())?;
-        Ok(Text { bytes })
+        Text::of(alloc, self.bytes.as_slice())
     }
 
     /// Lends all bytes for writing; the length stays. Takes no memory.

@@ -1,0 +1,54 @@
+-- Worked values of the shown form, of checks in order, and of words and kinds, by hand.
+use Rattle.std.proofs.Common.{◌≡◌, ℕ, [], ◌∷◌, refl}
+use Rattle.std.specs.Prelude.{codes, Ok, Err, true, false, Some, None}
+use Rattle.st_base.specs.Shown.{shown}
+use Rattle.st_base.specs.Number.{first_word}
+use Rattle.st_base.specs.Stabs.{is_stab}
+use Rattle.st_base.specs.Faults.{fault_at, check, checked}
+
+-- ---- the shown form
+
+-- a plain name is itself
+plain : shown (codes "int") ≡ codes "int"
+plain = refl
+
+-- a blank, a backslash and a byte that is none of ASCII are two digits each
+blank : shown (97 ∷ 32 ∷ 92 ∷ 255 ∷ []) ≡ codes "a\\x20\\x5c\\xff"
+blank = refl
+
+-- nothing is `-`, so the text `-` is not itself
+nothing : shown [] ≡ codes "-"
+nothing = refl
+
+dash : shown (codes "-") ≡ codes "\\x2d"
+dash = refl
+
+not_itself : shown (codes "-") ≡ codes "-" → ⊥
+not_itself e = absurd cc
+
+two_dashes : shown (codes "--") ≡ codes "--"
+two_dashes = refl
+
+-- ---- checks in order
+
+-- the first that does not hold is told, and where all hold the value is
+second : checked {A = ℕ} (check true 1 0 ∷ check false 2 7 ∷ check false 3 9 ∷ []) 5 ≡ Err (fault_at 2 7)
+second = refl
+
+passed : checked {A = ℕ} (check true 1 0 ∷ check true 2 7 ∷ []) 5 ≡ Ok 5
+passed = refl
+
+-- ---- words and kinds
+
+word : first_word false (7 ∷ 1 ∷ 0 ∷ 0 ∷ 9 ∷ []) ≡ Some 0x107
+word = refl
+
+no_word : first_word true (7 ∷ 1 ∷ 0 ∷ []) ≡ None
+no_word = refl
+
+-- an N_GSYM is a stab, and the entry of a definition in bss that others see is none
+global : is_stab 0x20 ≡ true
+global = refl
+
+in_bss : is_stab 9 ≡ false
+in_bss = refl
