@@ -11,9 +11,10 @@ use Rattle.st_base.specs.Number.{number, number_at, bytes_of, IsBytes}
 use Rattle.st_base.proofs.BytesLemmas.{IsBytes-items, number-bytes_of}
 use Rattle.st_base.proofs.CheckLemmas.{AllHold, checked-ok, checked-AllHold}
 use Rattle.st_base.proofs.FieldLemmas.{field_then, field_last}
+use Rattle.st_base.specs.declared.sizes.TheConstants.{HEADER_SIZE}
 use Rattle.aout_layout.specs.declared.header.Header.{Header}
 use Rattle.aout_layout.specs.declared.header.TheConstants.{OMAGIC, TWO_ORDERS}
-use Rattle.aout_layout.specs.Headers.{header_size, header_of, has_magic, fields_bytes, header_bytes, HeaderFits, NumbersFit, Spells, size_checks, header_checks, read}
+use Rattle.aout_layout.specs.Headers.{header_of, has_magic, fields_bytes, header_bytes, HeaderFits, NumbersFit, Spells, size_checks, header_checks, read}
 
 -- ---- the magic in both orders
 
@@ -126,7 +127,7 @@ spelled-read bytes h are_bytes long spells =
     ∙ checked-AllHold (size_checks h) h (sizes-pass h spells.fits)
 
 -- an answer that is what reading answers is a header exactly where the bytes spell it
-pub read_exactly : (bytes : List ℕ) (answer : Result Header Fault) → ((k : ℕ) → get_or bytes k 0 < 256) → length bytes ≡ header_size → answer ≡ read bytes
+pub read_exactly : (bytes : List ℕ) (answer : Result Header Fault) → ((k : ℕ) → get_or bytes k 0 < 256) → length bytes ≡ HEADER_SIZE → answer ≡ read bytes
     → (h : Header) → (answer ≡ Ok h) ↔ Spells h bytes
 read_exactly bytes answer below whole is h =
     let are_bytes = IsBytes-items bytes below in
@@ -185,7 +186,7 @@ written_in big h bytes order is numbers fits =
     subst (λ (x : List ℕ). Spells h x) (sym (is ∙ ap (λ (b : Bool). fields_bytes b h) (sym order))) (write-spelled h numbers fits)
 
 -- the fields that were read are written as the bytes
-fields-read : (big : Bool) (bytes : List ℕ) → IsBytes bytes → length bytes ≡ header_size → number_at big bytes 0 4 % 65536 ≡ OMAGIC → fields_bytes big (header_of big bytes) ≡ bytes
+fields-read : (big : Bool) (bytes : List ℕ) → IsBytes bytes → length bytes ≡ HEADER_SIZE → number_at big bytes 0 4 % 65536 ≡ OMAGIC → fields_bytes big (header_of big bytes) ≡ bytes
 fields-read big bytes are_bytes whole magic =
     let word : number_at big bytes 0 4 / 65536 * 65536 + OMAGIC ≡ number_at big bytes 0 4 = omega (arith, magic) in
     let first : 4 ≤ length bytes = omega (arith, whole) in
@@ -204,7 +205,7 @@ fields-read big bytes are_bytes whole magic =
     (field_then big bytes 24 4 _ are_bytes text_relocs (field_last big bytes 28 4 are_bytes data_relocs)))))))
 
 -- the bytes that spell a header are the ones that are written
-pub spelled-write : (h : Header) (bytes : List ℕ) → IsBytes bytes → length bytes ≡ header_size → Spells h bytes → header_bytes h ≡ bytes
+pub spelled-write : (h : Header) (bytes : List ℕ) → IsBytes bytes → length bytes ≡ HEADER_SIZE → Spells h bytes → header_bytes h ≡ bytes
 spelled-write h bytes are_bytes whole spells =
     ap (λ (x : Header). fields_bytes (is_big h.order) x) (sym spells.fields)
     ∙ fields-read (is_big h.order) bytes are_bytes whole spells.magic

@@ -6,12 +6,9 @@ use Rattle.st_base.specs.Faults.{Check, check, checked}
 use Rattle.st_base.specs.Number.{number_at, bytes_of}
 use Rattle.st_base.specs.declared.fault.Fault.{Fault}
 use Rattle.st_base.specs.declared.fault.TheConstants.{MAGIC, MACHINE, SYMBOL_BYTES, RELOC_BYTES, ADDRESS}
+use Rattle.st_base.specs.declared.sizes.TheConstants.{ENTRY_SIZE, RELOC_SIZE, GREATEST_ADDRESS}
 use Rattle.aout_layout.specs.declared.header.Header.{Header}
-use Rattle.aout_layout.specs.declared.header.TheConstants.{OMAGIC, TWO_ORDERS, ENTRY_SIZE, RELOC_SIZE, HIGHEST}
-
--- the bytes of the header
-abbrev pub header_size : ℕ
-header_size = 32
+use Rattle.aout_layout.specs.declared.header.TheConstants.{OMAGIC, TWO_ORDERS}
 
 -- ---- the fields
 
@@ -47,7 +44,7 @@ header_bytes h = fields_bytes (is_big h.order) h
 
 -- the end of bss is an address
 abbrev pub addresses_fit : Header → Bool
-addresses_fit h = nat_le (h.entry + h.text + h.data_part + h.bss) HIGHEST
+addresses_fit h = nat_le (h.entry + h.text + h.data_part + h.bss) GREATEST_ADDRESS
 
 -- a header that can be written and read again
 pub record HeaderFits (h : Header) : Type 0 where
@@ -55,7 +52,7 @@ pub record HeaderFits (h : Header) : Type 0 where
   pub whole_entries : h.symbols % ENTRY_SIZE ≡ 0
   pub whole_text_relocs : h.text_relocs % RELOC_SIZE ≡ 0
   pub whole_data_relocs : h.data_relocs % RELOC_SIZE ≡ 0
-  pub addresses : h.entry + h.text + h.data_part + h.bss ≤ HIGHEST
+  pub addresses : h.entry + h.text + h.data_part + h.bss ≤ GREATEST_ADDRESS
 
 -- each number of a header fits its field, as those of every header that a program holds do
 pub record NumbersFit (h : Header) : Type 0 where

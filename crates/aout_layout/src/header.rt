@@ -1,7 +1,5 @@
 use st_base::Order;
 
-/// The bytes of the header.
-pub const SIZE: usize = 32;
 /// The first word, four bytes: the magic in its low half, the machine word in its high half.
 pub const FIRST_WORD: usize = 0;
 /// `a_text`, four bytes: the size of text.
@@ -23,12 +21,6 @@ pub const DATA_RELOCS: usize = 28;
 pub const OMAGIC: u32 = 0x0107;
 /// The machine word that is refused: behind it the first word holds the magic in both byte orders.
 pub const TWO_ORDERS: u16 = 0x0701;
-/// The bytes of an entry of the symbol table.
-pub const ENTRY_SIZE: u32 = 12;
-/// The bytes of a relocation.
-pub const RELOC_SIZE: u32 = 8;
-/// The highest address of a file.
-pub const HIGHEST: u64 = 4_294_967_295;
 
 /// The header of an a.out file. All sizes are in bytes.
 #[derive(Clone, Copy, Debug, Drop, PartialEq, Eq)]
