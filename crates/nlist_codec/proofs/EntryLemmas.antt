@@ -2,10 +2,11 @@
 use Rattle.std.proofs.Common.{◌≡◌, ℕ, ◌≤◌, Bool, List, length, arith}
 use Rattle.st_base.specs.Number.{IsBytes}
 use Rattle.st_base.proofs.FieldLemmas.{field_then, field_last}
-use Rattle.nlist_codec.specs.Entries.{entry_of, entry_bytes, entry_size}
+use Rattle.st_base.specs.declared.sizes.TheConstants.{ENTRY_SIZE}
+use Rattle.nlist_codec.specs.Entries.{entry_of, entry_bytes}
 
 -- field by field from the last: each is written as the bytes at its place
-pub read-write : (big : Bool) (bytes : List ℕ) → IsBytes bytes → length bytes ≡ entry_size → entry_bytes big (entry_of big bytes) ≡ bytes
+pub read-write : (big : Bool) (bytes : List ℕ) → IsBytes bytes → length bytes ≡ ENTRY_SIZE → entry_bytes big (entry_of big bytes) ≡ bytes
 read-write big bytes are_bytes whole =
     let strx : 4 ≤ length bytes = omega (arith, whole) in
     let kind : 5 ≤ length bytes = omega (arith, whole) in

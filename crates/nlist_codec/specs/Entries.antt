@@ -2,11 +2,8 @@
 use Rattle.std.specs.Prelude.{ℕ, ◌/◌, ◌^◌, ◌<◌, Bool, List, ◌++◌, length, map}
 use Rattle.std.specs.Simd.{first_chunks}
 use Rattle.st_base.specs.Number.{number_at, bytes_of}
+use Rattle.st_base.specs.declared.sizes.TheConstants.{ENTRY_SIZE}
 use Rattle.nlist_codec.specs.declared.entry.Entry.{Entry}
-
--- the bytes of an entry
-abbrev pub entry_size : ℕ
-entry_size = 12
 
 -- the entry that twelve bytes spell: each field with its place and its size
 abbrev pub entry_of : Bool → List ℕ → Entry
@@ -33,4 +30,4 @@ pub record EntryFits (entry : Entry) : Type 0 where
 
 -- the entries of a list of bytes: one for each twelve, in order
 abbrev pub entries_in : Bool → List ℕ → List Entry
-entries_in big bytes = map (entry_of big) (first_chunks entry_size (length bytes / entry_size) bytes)
+entries_in big bytes = map (entry_of big) (first_chunks ENTRY_SIZE (length bytes / ENTRY_SIZE) bytes)

@@ -1,11 +1,10 @@
 ghost use Rattle.std.specs.Prelude.{◌≡◌, ℕ, List, length};
 ghost use Rattle.st_base.specs.Number.{IsBytes};
-ghost use Rattle.nlist_codec.specs.Entries.{EntryFits, entry_of, entry_bytes, entry_size};
+ghost use Rattle.st_base.specs.declared.sizes.TheConstants.{ENTRY_SIZE};
+ghost use Rattle.nlist_codec.specs.Entries.{EntryFits, entry_of, entry_bytes};
 
-use st_base::Layout;
+use st_base::{ENTRY_SIZE, Layout};
 
-/// The bytes of an entry.
-pub const SIZE: usize = 12;
 /// `n_strx`, four bytes: the place of the name in the string table, 0 for none.
 const STRX: usize = 0;
 /// `n_type`, one byte.
@@ -29,30 +28,30 @@ pub struct Entry {
 
 /// Reads an entry whose numbers have their most significant byte first where `BIG` holds, else last.
 /// Takes no memory, and refuses no bytes. After a.out(5), `struct nlist`.
-pub fn read_entry<const BIG: bool>(bytes: &[u8; 12]) -> Entry
+pub fn read_entry<const BIG: bool>(bytes: &[u8; ENTRY_SIZE]) -> Entry
     ensures { result ≡ entry_of BIG bytes.now }
 {
     Entry {
-        strx: Layout::<BIG, SIZE>::get_u32(bytes, STRX),
-        kind: Layout::<BIG, SIZE>::get_u8(bytes, KIND),
-        other: Layout::<BIG, SIZE>::get_u8(bytes, OTHER),
-        desc: Layout::<BIG, SIZE>::get_u16(bytes, DESC),
-        value: Layout::<BIG, SIZE>::get_u32(bytes, VALUE),
+        strx: Layout::<BIG, ENTRY_SIZE>::get_u32(bytes, STRX),
+        kind: Layout::<BIG, ENTRY_SIZE>::get_u8(bytes, KIND),
+        other: Layout::<BIG, ENTRY_SIZE>::get_u8(bytes, OTHER),
+        desc: Layout::<BIG, ENTRY_SIZE>::get_u16(bytes, DESC),
+        value: Layout::<BIG, ENTRY_SIZE>::get_u32(bytes, VALUE),
     }
 }
 
 /// Writes an entry whose numbers have their most significant byte first where `BIG` holds, else last. Takes no memory.
 /// After a.out(5), `struct nlist`.
-pub fn write_entry<const BIG: bool>(entry: &Entry) -> [u8; 12]
+pub fn write_entry<const BIG: bool>(entry: &Entry) -> [u8; ENTRY_SIZE]
     ensures bytes { result ≡ entry_bytes BIG entry.now }
     ensures read_again { entry_of BIG result ≡ entry.now }
 {
-    let mut bytes = [0; SIZE];
-    Layout::<BIG, SIZE>::put_u32(&mut bytes, STRX, entry.strx);
-    Layout::<BIG, SIZE>::put_u8(&mut bytes, KIND, entry.kind);
-    Layout::<BIG, SIZE>::put_u8(&mut bytes, OTHER, entry.other);
-    Layout::<BIG, SIZE>::put_u16(&mut bytes, DESC, entry.desc);
-    Layout::<BIG, SIZE>::put_u32(&mut bytes, VALUE, entry.value);
+    let mut bytes = [0; ENTRY_SIZE];
+    Layout::<BIG, ENTRY_SIZE>::put_u32(&mut bytes, STRX, entry.strx);
+    Layout::<BIG, ENTRY_SIZE>::put_u8(&mut bytes, KIND, entry.kind);
+    Layout::<BIG, ENTRY_SIZE>::put_u8(&mut bytes, OTHER, entry.other);
+    Layout::<BIG, ENTRY_SIZE>::put_u16(&mut bytes, DESC, entry.desc);
+    Layout::<BIG, ENTRY_SIZE>::put_u32(&mut bytes, VALUE, entry.value);
     bytes
 }
 
@@ -60,39 +59,5 @@ pub fn write_entry<const BIG: bool>(entry: &Entry) -> [u8; 12]
 /// written as the same twelve bytes.
 pub fn entry_laws<const BIG: bool>()
     ensures write_then_read { (entry : Entry) → EntryFits entry → entry_of BIG (entry_bytes BIG entry) ≡ entry }
-    ensures read_then_write { (bytes : List ℕ) → IsBytes bytes → length bytes ≡ entry_size → entry_bytes BIG (entry_of BIG bytes) ≡ bytes }
+    ensures read_then_write { (bytes : List ℕ) → IsBytes bytes → length bytes ≡ ENTRY_SIZE → entry_bytes BIG (entry_of BIG bytes) ≡ bytes }
 {}
-
-#[cfg(test)]
-mod tests {
-    use super::*;
-
-    #[test]
-    fn an_entry_is_read_and_written_in_both_orders(rt: HostRuntime) {
-        let expected = Entry {
-            strx: 4,
-            kind: 0x44,
-            other: 0,
-            desc: 7,
-            value: 0x1000,
-        };
-        let little = [
-            4, 0, 0, 0, // strx
-            0x44, // kind
-            0, // other
-            7, 0, // desc
-            0, 0x10, 0, 0, // value
-        ];
-        assert_eq!(rt; read_entry::<false>(&little), expected);
-        assert_eq!(rt; write_entry::<false>(&expected), little);
-        let big = [
-            0, 0, 0, 4, // strx
-            0x44, // kind
-            0, // other
-            0, 7, // desc
-            0, 0, 0x10, 0, // value
-        ];
-        assert_eq!(rt; read_entry::<true>(&big), expected);
-        assert_eq!(rt; write_entry::<true>(&expected), big);
-    }
-}
