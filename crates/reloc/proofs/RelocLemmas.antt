@@ -10,8 +10,9 @@ use Rattle.st_base.specs.Number.{number, number_at, bytes_of, IsBytes}
 use Rattle.st_base.proofs.BytesLemmas.{IsBytes-items, IsBytes-take, IsBytes-drop, number-bytes_of, number-lt}
 use Rattle.st_base.proofs.CheckLemmas.{AllHold, checked-ok, checked-AllHold}
 use Rattle.st_base.proofs.FieldLemmas.{field_then, field_last}
+use Rattle.st_base.specs.declared.sizes.TheConstants.{RELOC_SIZE}
 use Rattle.reloc.specs.declared.reloc.Reloc.{Reloc}
-use Rattle.reloc.specs.Relocs.{reloc_size, column_of, has_flag, length_in, has_other_flags, flag_bits, flags_of, flags_at, reloc_of, reloc_bytes, RelocFits, Spells, reloc_checks, read}
+use Rattle.reloc.specs.Relocs.{column_of, has_flag, length_in, has_other_flags, flag_bits, flags_of, flags_at, reloc_of, reloc_bytes, RelocFits, Spells, reloc_checks, read}
 
 -- ---- the flags
 
@@ -65,7 +66,7 @@ flags-read false flags below no_others =
 -- ---- what is read is spelled, and what is spelled is read
 
 -- a number of three bytes is below 2^24
-symbol-lt : (big : Bool) (bytes : List ℕ) → IsBytes bytes → length bytes ≡ reloc_size → number_at big bytes 4 3 < 2 ^ 24
+symbol-lt : (big : Bool) (bytes : List ℕ) → IsBytes bytes → length bytes ≡ RELOC_SIZE → number_at big bytes 4 3 < 2 ^ 24
 symbol-lt big bytes are_bytes whole =
     let rest = length-drop 4 bytes in
     let long : length (take 3 (drop 4 bytes)) ≡ 3 = length-take-le 3 (drop 4 bytes) (omega (arith, rest, whole)) in
@@ -73,7 +74,7 @@ symbol-lt big bytes are_bytes whole =
     subst (λ (n : ℕ). number_at big bytes 4 3 < 256 ^ n) long below
 
 -- a relocation that is read is spelled by the bytes
-pub read-spelled : (big : Bool) (bytes : List ℕ) (r : Reloc) → IsBytes bytes → length bytes ≡ reloc_size → read big bytes ≡ Ok r → Spells big r bytes
+pub read-spelled : (big : Bool) (bytes : List ℕ) (r : Reloc) → IsBytes bytes → length bytes ≡ RELOC_SIZE → read big bytes ≡ Ok r → Spells big r bytes
 read-spelled big bytes r are_bytes whole answer =
     let told = checked-ok (reloc_checks big bytes) (reloc_of big bytes) r answer in
     let not_three : (reloc_of big bytes).length ≢ 3 = eqb-false _ _ (not-true _ told.0.0) in
@@ -98,7 +99,7 @@ spelled-read big bytes r spells =
     ∙ ap (λ (x : Reloc). Ok x) spells.fields
 
 -- an answer that is what reading answers is a relocation exactly where the bytes spell it
-pub read_exactly : (big : Bool) (bytes : List ℕ) (answer : Result Reloc Fault) → ((k : ℕ) → get_or bytes k 0 < 256) → length bytes ≡ reloc_size → answer ≡ read big bytes
+pub read_exactly : (big : Bool) (bytes : List ℕ) (answer : Result Reloc Fault) → ((k : ℕ) → get_or bytes k 0 < 256) → length bytes ≡ RELOC_SIZE → answer ≡ read big bytes
     → (r : Reloc) → (answer ≡ Ok r) ↔ Spells big r bytes
 read_exactly big bytes answer below whole is r =
     (λ found. read-spelled big bytes r (IsBytes-items bytes below) whole (sym is ∙ found), λ spells. is ∙ spelled-read big bytes r spells)
@@ -130,7 +131,7 @@ pub written : (big : Bool) (r : Reloc) (bytes : List ℕ) → bytes ≡ reloc_by
 written big r bytes is address fits = subst (Spells big r) (sym is) (write-spelled big r address fits)
 
 -- the flag byte of eight bytes is a byte
-flags_at-lt : (big : Bool) (bytes : List ℕ) → IsBytes bytes → length bytes ≡ reloc_size → flags_at big bytes < 256
+flags_at-lt : (big : Bool) (bytes : List ℕ) → IsBytes bytes → length bytes ≡ RELOC_SIZE → flags_at big bytes < 256
 flags_at-lt big bytes are_bytes whole =
     let rest = length-drop 7 bytes in
     let long : length (take 1 (drop 7 bytes)) ≡ 1 = length-take-le 1 (drop 7 bytes) (omega (arith, rest, whole)) in
@@ -138,7 +139,7 @@ flags_at-lt big bytes are_bytes whole =
     subst (λ (n : ℕ). flags_at big bytes < 256 ^ n) long below
 
 -- the fields that were read are written as the bytes
-fields-read : (big : Bool) (bytes : List ℕ) → IsBytes bytes → length bytes ≡ reloc_size → has_other_flags (column_of big) (flags_at big bytes) ≡ false → reloc_bytes big (reloc_of big bytes) ≡ bytes
+fields-read : (big : Bool) (bytes : List ℕ) → IsBytes bytes → length bytes ≡ RELOC_SIZE → has_other_flags (column_of big) (flags_at big bytes) ≡ false → reloc_bytes big (reloc_of big bytes) ≡ bytes
 fields-read big bytes are_bytes whole no_others =
     let flags = flags-read big (flags_at big bytes) (flags_at-lt big bytes are_bytes whole) no_others in
     let address : 4 ≤ length bytes = omega (arith, whole) in
@@ -148,6 +149,6 @@ fields-read big bytes are_bytes whole no_others =
     (field_then big bytes 4 3 _ are_bytes symbol (ap (bytes_of big 1) flags ∙ field_last big bytes 7 1 are_bytes last))
 
 -- the bytes that spell a relocation are the ones that are written
-pub spelled-write : (big : Bool) (r : Reloc) (bytes : List ℕ) → IsBytes bytes → length bytes ≡ reloc_size → Spells big r bytes → reloc_bytes big r ≡ bytes
+pub spelled-write : (big : Bool) (r : Reloc) (bytes : List ℕ) → IsBytes bytes → length bytes ≡ RELOC_SIZE → Spells big r bytes → reloc_bytes big r ≡ bytes
 spelled-write big r bytes are_bytes whole spells =
     ap (reloc_bytes big) (sym spells.fields) ∙ fields-read big bytes are_bytes whole spells.no_others

@@ -8,10 +8,6 @@ use Rattle.st_base.specs.declared.fault.TheConstants.{LENGTH8, FLAG, SEGMENT}
 use Rattle.reloc.specs.declared.column.Column.{Column}
 use Rattle.reloc.specs.declared.reloc.Reloc.{Reloc}
 
--- the bytes of a relocation
-abbrev pub reloc_size : ℕ
-reloc_size = 8
-
 -- ---- the flags
 
 -- the bits of each flag, in little order and in big order

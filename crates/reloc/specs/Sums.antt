@@ -1,15 +1,10 @@
 -- What a relocation does to its field: an amount is added to what the field holds. That a narrow field is extended by its sign,
 -- and which sums fit it, is this project's own.
 use Rattle.std.specs.Prelude.{ℕ, ◌+◌, ◌-◌, ◌*◌, ◌^◌, ◌%◌, nat_lt, nat_le, Bool, ◌||◌, if◌then◌else◌, List, [], ◌∷◌, length}
-use Rattle.st_base.specs.Faults.{Check, check, fault_at}
+use Rattle.st_base.specs.Faults.{Check, check}
 use Rattle.st_base.specs.Number.{number_at, with_number_at}
-use Rattle.st_base.specs.declared.fault.Fault.{Fault}
 use Rattle.st_base.specs.declared.fault.TheConstants.{OUTSIDE, OVERFLOW}
 use Rattle.reloc.specs.declared.reloc.Reloc.{Reloc}
-
--- a fault of a relocation by itself: its place is the address
-abbrev pub fault : ℕ → ℕ → Fault
-fault number address = fault_at number address
 
 -- the bytes of a field, 1, 2 or 4 for the lengths 0, 1, 2
 abbrev pub bytes_in : ℕ → ℕ

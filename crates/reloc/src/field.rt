@@ -7,16 +7,6 @@ ghost use Rattle.reloc.specs.Sums.{apply_checks, applied, bytes_in, bits_in};
 use crate::reloc::Reloc;
 use st_base::{Fault, Layout, OUTSIDE, OVERFLOW};
 
-fn fault_at(number: u16, address: u32) -> Fault
-    ensures { result ≡ spec.fault number address }
-{
-    Fault {
-        number,
-        place: u64::from(address),
-        within: 0,
-    }
-}
-
 fn size_of(length: u8) -> usize
     requires { length ≤ 2 }
     ensures { result ≡ bytes_in length }
@@ -122,125 +112,13 @@ pub fn apply<const BIG: bool>(segment: &mut [u8], reloc: &Reloc, add: u32) -> Re
 {
     let at = reloc.address as usize;
     if segment.len() < at + size_of(reloc.length) {
-        return Err(fault_at(OUTSIDE, reloc.address));
+        return Err(Fault::at(OUTSIDE, u64::from(reloc.address)));
     }
     let old = read_field::<BIG>(segment, at, reloc.length);
     let sum = sum(reloc.length, old, add);
     if !sum_fits(reloc.length, sum) {
-        return Err(fault_at(OVERFLOW, reloc.address));
+        return Err(Fault::at(OVERFLOW, u64::from(reloc.address)));
     }
     write_field::<BIG>(segment, at, reloc.length, low_bits(reloc.length, sum));
     Ok(())
-}
-
-#[cfg(test)]
-mod tests {
-    use super::*;
-
-    fn at(address: u32, length: u8) -> Reloc
-        requires { length ≤ 2 }
-        ensures { result.length ≡ length }
-    {
-        Reloc {
-            address,
-            symbol: 4,
-            pcrel: false,
-            length,
-            external: false,
-        }
-    }
-
-    fn fault(number: u16, place: u64) -> Result<(), Fault> {
-        Err(Fault {
-            number,
-            place,
-            within: 0,
-        })
-    }
-
-    #[test]
-    fn a_field_of_each_length_becomes_the_sum_in_both_orders(rt: HostRuntime) {
-        let mut bytes = [0x11, 0x80, 0x22, 0x33];
-        assert_eq!(rt;
-            apply::<true>(&mut bytes, &at(1, 0), 0x17f),
-            Ok(()),
-            "-128 and 383 are 255"
-        );
-        assert_eq!(rt; bytes, [0x11, 0xff, 0x22, 0x33]);
-        let mut bytes = [0x11, 0xff, 0xfe, 0x33];
-        assert_eq!(rt;
-            apply::<true>(&mut bytes, &at(1, 1), 0x1002),
-            Ok(()),
-            "-2 and 0x1002 in big order"
-        );
-        assert_eq!(rt; bytes, [0x11, 0x10, 0x00, 0x33]);
-        let mut bytes = [0x11, 0xfe, 0xff, 0x33];
-        assert_eq!(rt;
-            apply::<false>(&mut bytes, &at(1, 1), 0x1002),
-            Ok(()),
-            "-2 and 0x1002 in little order"
-        );
-        assert_eq!(rt; bytes, [0x11, 0x00, 0x10, 0x33]);
-        let mut bytes = [0x11, 0xff, 0xff, 0xff, 0xfe, 0x33];
-        assert_eq!(rt;
-            apply::<true>(&mut bytes, &at(1, 2), 0x1234_5678),
-            Ok(()),
-            "a sum past 2^32 in big order"
-        );
-        assert_eq!(rt; bytes, [0x11, 0x12, 0x34, 0x56, 0x76, 0x33]);
-        let mut bytes = [0x11, 0xfe, 0xff, 0xff, 0xff, 0x33];
-        assert_eq!(rt;
-            apply::<false>(&mut bytes, &at(1, 2), 0x1234_5678),
-            Ok(()),
-            "a sum past 2^32 in little order"
-        );
-        assert_eq!(rt; bytes, [0x11, 0x76, 0x56, 0x34, 0x12, 0x33]);
-    }
-
-    #[test]
-    fn a_sum_fits_a_byte_from_the_least_negative_to_the_greatest(rt: HostRuntime) {
-        let mut bytes = [0];
-        assert_eq!(rt; apply::<false>(&mut bytes, &at(0, 0), 255), Ok(()), "255");
-        assert_eq!(rt; bytes, [0xff]);
-        bytes = [0];
-        assert_eq!(rt;
-            apply::<false>(&mut bytes, &at(0, 0), 0xffff_ff80),
-            Ok(()),
-            "-128"
-        );
-        assert_eq!(rt; bytes, [0x80]);
-        bytes = [0];
-        assert_eq!(rt;
-            apply::<false>(&mut bytes, &at(0, 0), 256),
-            fault(OVERFLOW, 0),
-            "256"
-        );
-        assert_eq!(rt;
-            apply::<false>(&mut bytes, &at(0, 0), 0xffff_ff7f),
-            fault(OVERFLOW, 0),
-            "-129"
-        );
-        assert_eq!(rt; bytes, [0], "nothing changed");
-    }
-
-    #[test]
-    fn a_field_past_the_end_is_told_before_its_sum(rt: HostRuntime) {
-        let mut bytes = [0xff, 0xff, 0xff];
-        assert_eq!(rt;
-            apply::<false>(&mut bytes, &at(2, 1), 0x1_0000),
-            fault(OUTSIDE, 2),
-            "the second byte is past the end"
-        );
-        assert_eq!(rt;
-            apply::<true>(&mut bytes, &at(0xffff_ffff, 2), 1),
-            fault(OUTSIDE, 0xffff_ffff),
-            "the highest address"
-        );
-        assert_eq!(rt;
-            apply::<false>(&mut bytes, &at(1, 1), 0x1_0001),
-            fault(OVERFLOW, 1),
-            "the last two bytes"
-        );
-        assert_eq!(rt; bytes, [0xff, 0xff, 0xff], "nothing changed");
-    }
 }

@@ -1,21 +1,10 @@
 ghost use Rattle.std.specs.Prelude.{◌≡◌, ◌↔◌};
-ghost use Rattle.st_base.specs.Faults as faults;
 ghost use Rattle.reloc.specs.Relocs as spec;
 ghost use Rattle.reloc.specs.Relocs.{Spells, HasLength};
 
 use crate::column::{Column, flag_column};
-use crate::reloc::{ADDRESS, FLAGS, Reloc, SIZE, SYMBOL};
-use st_base::{FLAG, Fault, LENGTH8, Layout, SEGMENT};
-
-fn fault(number: u16) -> Fault
-    ensures { result ≡ faults.fault_at number 0 }
-{
-    Fault {
-        number,
-        place: 0,
-        within: 0,
-    }
-}
+use crate::reloc::{ADDRESS, FLAGS, Reloc, SYMBOL};
+use st_base::{FLAG, Fault, LENGTH8, Layout, RELOC_SIZE, SEGMENT};
 
 fn has_flag(flags: u8, mask: u8) -> bool
     ensures { result ≡ spec.has_flag flags mask }
@@ -46,33 +35,33 @@ fn is_segment(symbol: u32) -> bool
     symbol == 2 || symbol == 4 || symbol == 6 || symbol == 8
 }
 
-fn read_fields<const BIG: bool>(bytes: &[u8; 8], column: &Column, flags: u8) -> Reloc
+fn read_fields<const BIG: bool>(bytes: &[u8; RELOC_SIZE], column: &Column, flags: u8) -> Reloc
     requires { HasLength column.now }
     ensures { result ≡ spec.fields_in BIG bytes.now column.now flags }
 {
     Reloc {
-        address: Layout::<BIG, SIZE>::get_u32(bytes, ADDRESS),
-        symbol: Layout::<BIG, SIZE>::get_u24(bytes, SYMBOL),
+        address: Layout::<BIG, RELOC_SIZE>::get_u32(bytes, ADDRESS),
+        symbol: Layout::<BIG, RELOC_SIZE>::get_u24(bytes, SYMBOL),
         pcrel: has_flag(flags, column.pcrel),
         length: length_in(column, flags),
         external: has_flag(flags, column.external),
     }
 }
 
-fn read_checked<const BIG: bool>(bytes: &[u8; 8]) -> Result<Reloc, Fault>
+fn read_checked<const BIG: bool>(bytes: &[u8; RELOC_SIZE]) -> Result<Reloc, Fault>
     ensures { result ≡ spec.read BIG bytes.now }
 {
     let column = flag_column::<BIG>();
-    let flags = Layout::<BIG, SIZE>::get_u8(bytes, FLAGS);
+    let flags = Layout::<BIG, RELOC_SIZE>::get_u8(bytes, FLAGS);
     let reloc = read_fields::<BIG>(bytes, &column, flags);
     if reloc.length == 3 {
-        return Err(fault(LENGTH8));
+        return Err(Fault::at(LENGTH8, 0));
     }
     if has_other_flags(&column, flags) {
-        return Err(fault(FLAG));
+        return Err(Fault::at(FLAG, 0));
     }
     if !reloc.external && !is_segment(reloc.symbol) {
-        return Err(fault(SEGMENT));
+        return Err(Fault::at(SEGMENT, 0));
     }
     Ok(reloc)
 }
@@ -82,7 +71,7 @@ fn read_checked<const BIG: bool>(bytes: &[u8; 8]) -> Result<Reloc, Fault>
 ///
 /// Refused at the first of these, with place 0: `LENGTH8`, `FLAG`, `SEGMENT`. Takes no memory. After a.out(5),
 /// `struct relocation_info`; the columns are those of GNU's `struct reloc_std_external`.
-pub fn read_reloc<const BIG: bool>(bytes: &[u8; 8]) -> Result<Reloc, Fault>
+pub fn read_reloc<const BIG: bool>(bytes: &[u8; RELOC_SIZE]) -> Result<Reloc, Fault>
     ensures first_fault { result ≡ spec.read BIG bytes.now }
     ensures spelled { (reloc : Reloc) → (result ≡ Ok reloc) ↔ Spells BIG reloc bytes.now }
 {

@@ -1,5 +1,3 @@
-/// The bytes of a relocation.
-pub const SIZE: usize = 8;
 /// `r_address`, four bytes: where the field begins, as an offset in its segment.
 pub const ADDRESS: usize = 0;
 /// `r_symbolnum`, three bytes: the entry's number where the relocation is external, else the kind of a segment.
