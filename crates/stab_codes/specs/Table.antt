@@ -5,10 +5,6 @@ use Rattle.std.specs.Str.{bytes_eq}
 use Rattle.stab_codes.specs.declared.segment.Segment.{Segment}
 use Rattle.stab_codes.specs.declared.segment.Segment.TheVariants.{Still, Text, Datum, Bss}
 
--- the bits of a kind of which a stab has one at least
-abbrev pub stab_bits : ℕ
-stab_bits = 0xe0
-
 -- a stab code, its name, the segment that the value of such an entry moves with, and whether its string spells a symbol
 pub record Row : Type 0 where
   pub code : ℕ

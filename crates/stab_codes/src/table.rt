@@ -1,8 +1,9 @@
-ghost use Rattle.std.specs.Prelude.{◌≡◌, ◌≢◌, ◌↔◌, ℕ, List, map, bit_and};
+ghost use Rattle.std.specs.Prelude.{◌≡◌, ◌≢◌, ◌↔◌, ℕ, List, map, IsTrue};
 ghost use Rattle.std.specs.List.{All, AllPairs};
 ghost use Rattle.std.specs.Option.{option_copied};
+ghost use Rattle.st_base.specs.Stabs.{is_stab};
 ghost use Rattle.stab_codes.specs.Segments.{segment_of};
-ghost use Rattle.stab_codes.specs.Table.{table, stab_bits, code_name, code_of, carries_symbol};
+ghost use Rattle.stab_codes.specs.Table.{table, code_name, code_of, carries_symbol};
 
 use crate::code::{
     N_BINCL, N_EINCL, N_EXCL, N_FUN, N_GSYM, N_LBRAC, N_LCSYM, N_LSYM, N_MAIN, N_OPT, N_PSYM,
@@ -92,62 +93,5 @@ pub fn table_laws()
     ensures codes { AllPairs (λ a b. a ≢ b) (map (λ row. row.code) table) }
     ensures names { AllPairs (λ a b. a ≢ b) (map (λ row. row.name) table) }
     ensures segments { All (λ row. segment_of row.code ≡ row.moves_with) table }
-    ensures stabs { All (λ row. bit_and row.code stab_bits ≢ 0) table }
+    ensures stabs { All (λ row. IsTrue (is_stab row.code)) table }
 {}
-
-#[cfg(test)]
-mod tests {
-    use super::*;
-
-    #[test]
-    fn each_row_of_the_table(rt: HostRuntime) {
-        let rows: [(u8, &[u8], bool); 18] = [
-            (0x20, b"N_GSYM", true),
-            (0x24, b"N_FUN", true),
-            (0x26, b"N_STSYM", true),
-            (0x28, b"N_LCSYM", true),
-            (0x2a, b"N_MAIN", false),
-            (0x2c, b"N_ROSYM", true),
-            (0x3c, b"N_OPT", false),
-            (0x40, b"N_RSYM", true),
-            (0x44, b"N_SLINE", false),
-            (0x64, b"N_SO", false),
-            (0x80, b"N_LSYM", true),
-            (0x82, b"N_BINCL", false),
-            (0x84, b"N_SOL", false),
-            (0xa0, b"N_PSYM", true),
-            (0xa2, b"N_EINCL", false),
-            (0xc0, b"N_LBRAC", false),
-            (0xc2, b"N_EXCL", false),
-            (0xe0, b"N_RBRAC", false),
-        ];
-        for (code, name, carries) in rows {
-            assert_eq!(rt; code_name(code), Some(name), "the name of {code}");
-            assert_eq!(rt; code_of(name), Some(code), "the code of the name of {code}");
-            assert_eq!(rt; carries_symbol(code), carries, "a symbol at {code}");
-        }
-    }
-
-    #[test]
-    fn codes_that_are_not_in_the_table(rt: HostRuntime) {
-        // a function of Fortran, a line in data, the length of a block, and two kinds that are no stabs
-        for code in [0x22, 0x46, 0xfe, 0x04, 0x05] {
-            assert_eq!(rt; code_name(code), None, "the name of {code}");
-            assert!(rt; !carries_symbol(code), "a symbol at {code}");
-        }
-    }
-
-    #[test]
-    fn names_that_are_not_in_the_table(rt: HostRuntime) {
-        let lower_case = code_of(b"n_fun");
-        assert_eq!(rt; lower_case, None);
-        let front_of_a_name = code_of(b"N_FU");
-        assert_eq!(rt; front_of_a_name, None);
-        let longer_than_a_name = code_of(b"N_FUN ");
-        assert_eq!(rt; longer_than_a_name, None);
-        let not_in_c = code_of(b"N_FNAME");
-        assert_eq!(rt; not_in_c, None);
-        let empty = code_of(b"");
-        assert_eq!(rt; empty, None);
-    }
-}
