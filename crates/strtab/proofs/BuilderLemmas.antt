@@ -6,7 +6,7 @@ use Rattle.std.proofs.lemmas.Option.{none-some}
 use Rattle.std.specs.List.{list_any}
 use Rattle.std.specs.Str.{bytes_eq}
 use Rattle.st_base.specs.declared.fault.Refused.{Refused}
-use Rattle.strtab.specs.declared.table.TheConstants.{TABLE_LIMIT}
+use Rattle.st_base.specs.declared.sizes.TheConstants.{FILE_LIMIT}
 use Rattle.strtab.specs.StringTable.{HasNoZero}
 use Rattle.strtab.specs.Names.{spelled, size_of, names_before, offset_of, added, RefusesSize}
 use Rattle.strtab.specs.Builder.{names_in, offsets_from, found_in, IsIndexed, IsPlaced}
@@ -26,10 +26,10 @@ IsIndexed-nil {A} entries bytes none word =
 -- a new name is placed last, and its bytes at the table's end
 pub IsPlaced-new : {A : Type 0} (found : Option ℕ) (name : Vec ℕ A) (old new : List (Vec ℕ A × ℕ)) (before after bytes : List ℕ) (strx : ℕ)
     → found ≡ None → strx ≡ length before → new ≡ old ++ (name, strx) ∷ [] → bytes ≡ name.items → after ≡ before ++ (bytes ++ 0 ∷ [])
-    → length before + (length bytes + 1) ≤ TABLE_LIMIT → IsPlaced found name old new before after strx
+    → length before + (length bytes + 1) ≤ FILE_LIMIT → IsPlaced found name old new before after strx
 IsPlaced-new found name old new before after bytes strx absent end last spells grown fits =
     let whole : after ≡ before ++ (name.items ++ 0 ∷ []) = grown ∙ ap (λ (b : List ℕ). before ++ (b ++ 0 ∷ [])) spells in
-    let size : length after ≤ TABLE_LIMIT = rw grown (simp length-append (omega arith)) in
+    let size : length after ≤ FILE_LIMIT = rw grown (simp length-append (omega arith)) in
     subst (λ f. IsPlaced f name old new before after strx) (sym absent) (end, last, whole, size)
 
 -- ---- looking a name up
@@ -109,7 +109,7 @@ module _ {A : Type 0} (name : Vec ℕ A) (old : List (Vec ℕ A × ℕ)) (before
       }
 
   -- a new name
-  uses-new : found_in old name.items ≡ None → length before + (length name.items + 1) ≤ TABLE_LIMIT
+  uses-new : found_in old name.items ≡ None → length before + (length name.items + 1) ≤ FILE_LIMIT
       → Uses name.items old (old ++ (name, length before) ∷ []) (before ++ (name.items ++ 0 ∷ [])) (length before)
   uses-new absent fits =
       let new = absent-new old name.items absent in

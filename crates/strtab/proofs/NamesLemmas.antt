@@ -8,8 +8,10 @@ use Rattle.std.proofs.lemmas.Option.{none-some}
 use Rattle.std.proofs.lemmas.Slice.Eq.{bytes_eq-Decides}
 use Rattle.std.specs.List.{list_any, prefix_len, position_or_len}
 use Rattle.std.specs.Str.{bytes_eq}
+use Rattle.st_base.specs.Number.{bytes_of}
+use Rattle.st_base.proofs.BytesLemmas.{length-bytes_of}
 use Rattle.strtab.specs.StringTable.{is_zero, before_zero, name_in, HasNoZero}
-use Rattle.strtab.specs.Names.{spelled, size_of, word_of, table_of, names_before, offset_of}
+use Rattle.strtab.specs.Names.{spelled, size_of, table_of, names_before, offset_of}
 
 -- ---- equal names
 
@@ -79,11 +81,6 @@ pub spelled-append : (names more : List (List ℕ)) → spelled (names ++ more) 
 spelled-append [] more = refl
 spelled-append (name ∷ names) more = rw (spelled-append names more) (sym (append_assoc name (0 ∷ spelled names) (spelled more)))
 
--- the length word has four bytes
-pub length-word_of : (big : Bool) (n : ℕ) → length (word_of big n) ≡ 4
-length-word_of true n = refl
-length-word_of false n = refl
-
 -- ---- a name up to its zero byte
 
 -- in a name without a zero byte all bytes are passed
@@ -118,11 +115,11 @@ offset_of-filled names (b ∷ bytes) filled = refl
 
 -- ---- a name is found at its offset
 
--- behind the length word and some bytes the table goes on with what follows them
-drop-table : (big : Bool) (n : ℕ) (before after : List ℕ) → drop (4 + length before) (word_of big n ++ (before ++ after)) ≡ after
-drop-table big n before after =
-    let front : length (word_of big n ++ before) ≡ 4 + length before = simp length-append (rw (length-word_of big n) refl) in
-    rw (← front, ← append_assoc (word_of big n) before after) (drop-append_seam (word_of big n ++ before) after)
+-- behind four bytes and some more a list goes on with what follows them
+drop-behind : (word before after : List ℕ) → length word ≡ 4 → drop (4 + length before) (word ++ (before ++ after)) ≡ after
+drop-behind word before after four =
+    let front : length (word ++ before) ≡ 4 + length before = simp length-append (rw four refl) in
+    rw (← front, ← append_assoc word before after) (drop-append_seam (word ++ before) after)
 
 -- where the name at an offset is looked for among the bytes there
 name_in-read : (table : List ℕ) (strx : ℕ) → 4 ≤ strx → strx < length table → name_in table strx ≡ before_zero (drop strx table)
@@ -131,22 +128,25 @@ name_in-read table strx above within =
     let read = and_from _ _ (le-leb 4 strx above) (lt-ltb strx (length table) within) in
     cond-false _ (Some []) _ named ∙ cond-true _ _ None read
 
--- the name at the offset of a name is that name
-pub name_in-offset_of : (big : Bool) (names : List (List ℕ)) (name : List ℕ) → name ≢ [] → HasNoZero name
-    → list_any (bytes_eq name) names ≡ true → name_in (table_of big names) (offset_of names name) ≡ Some name
-name_in-offset_of big names name filled whole there =
+-- behind any word of four bytes the name at the offset of a name is that name
+name_in-behind : (word : List ℕ) (names : List (List ℕ)) (name : List ℕ) → length word ≡ 4 → name ≢ [] → HasNoZero name
+    → list_any (bytes_eq name) names ≡ true → name_in (word ++ spelled names) (offset_of names name) ≡ Some name
+name_in-behind word names name four filled whole there =
     let split = split_at_name name names there in
     let before = spelled (names_before names name) in
     let after = name ++ (0 ∷ spelled split.0) in
-    let size = size_of names in
     let bytes : spelled names ≡ before ++ after = ap spelled split.1 ∙ spelled-append (names_before names name) (name ∷ split.0) in
-    let table : table_of big names ≡ word_of big size ++ (before ++ after) = ap (λ (b : List ℕ). word_of big size ++ b) bytes in
-    let longer : length (word_of big size ++ (before ++ after)) ≡ 4 + (length before + length after) =
-    simp length-append (rw (length-word_of big size) refl) in
+    let longer : length (word ++ (before ++ after)) ≡ 4 + (length before + length after) = simp length-append (rw four refl) in
     let rest : length after ≡ length name + (1 + length (spelled split.0)) = simp length-append (omega arith) in
-    let within : 4 + length before < length (word_of big size ++ (before ++ after)) = omega arith in
-    rw (offset_of-filled names name filled, table)
-    (name_in-read _ (4 + length before) (omega arith) within ∙ ap before_zero (drop-table big size before after) ∙ before_zero-ended name _ whole)
+    let within : 4 + length before < length (word ++ (before ++ after)) = omega arith in
+    rw (offset_of-filled names name filled, bytes)
+    (name_in-read _ (4 + length before) (omega arith) within ∙ ap before_zero (drop-behind word before after four) ∙ before_zero-ended name _ whole)
+
+-- in the table of names the name at the offset of a name is that name
+pub name_in-offset_of : (big : Bool) (names : List (List ℕ)) (name : List ℕ) → name ≢ [] → HasNoZero name
+    → list_any (bytes_eq name) names ≡ true → name_in (table_of big names) (offset_of names name) ≡ Some name
+name_in-offset_of big names name =
+    name_in-behind (bytes_of big 4 (size_of names)) names name (length-bytes_of big 4 (size_of names))
 
 -- two names with one offset are one name
 pub offset_of-injective : (names : List (List ℕ)) (name other : List ℕ) → name ≢ [] → HasNoZero name → other ≢ [] → HasNoZero other

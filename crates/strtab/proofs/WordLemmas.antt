@@ -1,21 +1,24 @@
--- The length word of a table: its four bytes are read as the number that they spell.
-use Rattle.std.proofs.Common.{◌≡◌, ℕ, ◌<◌, ◌^◌, Bool, true, false, List, ◌++◌, length, refl, sym, ◌∙◌, arith, length-append}
-use Rattle.byteorder.specs.Numbers.{big_number-reads_back, little_number-reads_back}
-use Rattle.st_base.specs.Number.{number_at}
-use Rattle.st_base.proofs.NumberLemmas.{big_4, little_4}
+-- The length word of a table: it is read as the number that its four bytes spell, and that is the table's length.
+use Rattle.std.proofs.Common.{◌≡◌, ℕ, ◌+◌, ◌<◌, ◌^◌, Bool, List, length, sym, ap, ◌∙◌, arith, length-append}
+use Rattle.std.proofs.lemmas.List.{take_at}
+use Rattle.st_base.specs.Number.{number, number_at, bytes_of}
+use Rattle.st_base.proofs.BytesLemmas.{length-bytes_of, number-bytes_of}
 use Rattle.strtab.specs.StringTable.{HasOwnLength}
-use Rattle.strtab.specs.Names.{spelled, size_of, word_of, table_of}
-use Rattle.strtab.proofs.NamesLemmas.{length-word_of}
+use Rattle.strtab.specs.Names.{spelled, size_of, table_of}
 
--- the word is read as its number, whatever follows it
-number_at-word_of : (big : Bool) (n : ℕ) (rest : List ℕ) → n < 2 ^ 32 → number_at big (word_of big n ++ rest) 0 4 ≡ n
-number_at-word_of true n rest fits =
-    sym (big_4 (word_of true n ++ rest) (simp length-append (omega arith))) ∙ big_number-reads_back 4 n rest fits
-number_at-word_of false n rest fits =
-    sym (little_4 (word_of false n ++ rest) (simp length-append (omega arith))) ∙ little_number-reads_back 4 n rest fits
+-- the length of a table
+pub length-table_of : (big : Bool) (names : List (List ℕ)) → length (table_of big names) ≡ size_of names
+length-table_of big names =
+    length-append (bytes_of big 4 (size_of names)) (spelled names) ∙ ap (λ (n : ℕ). n + length (spelled names)) (length-bytes_of big 4 (size_of names))
+
+-- the word of a table is read as the size of its names
+number_at-table_of : (big : Bool) (names : List (List ℕ)) → size_of names < 2 ^ 32 → number_at big (table_of big names) 0 4 ≡ size_of names
+number_at-table_of big names fits =
+    ap (number big) (take_at (bytes_of big 4 (size_of names)) (spelled names) 4 (length-bytes_of big 4 (size_of names)))
+    ∙ number-bytes_of big 4 (size_of names) fits
 
 -- the table of a list of names begins with its own length
 pub HasOwnLength-table_of : (big : Bool) (names : List (List ℕ)) → size_of names < 2 ^ 32 → HasOwnLength big (table_of big names)
 HasOwnLength-table_of big names fits =
-    let size : length (table_of big names) ≡ size_of names = simp length-append (rw (length-word_of big (size_of names)) refl) in
-    record { word = omega arith; counts = number_at-word_of big (size_of names) (spelled names) fits ∙ sym size }
+    let size = length-table_of big names in
+    record { word = omega (arith, size); counts = number_at-table_of big names fits ∙ sym size }

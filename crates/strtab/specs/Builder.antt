@@ -2,7 +2,7 @@
 -- to be written.
 use Rattle.std.specs.Prelude.{◌≡◌, ℕ, ◌+◌, ◌≤◌, List, [], ◌∷◌, ◌++◌, length, map, Option, Some, None, Vec, bytes_eq}
 use Rattle.std.specs.Map.{lookup}
-use Rattle.strtab.specs.declared.table.TheConstants.{TABLE_LIMIT}
+use Rattle.st_base.specs.declared.sizes.TheConstants.{FILE_LIMIT}
 use Rattle.strtab.specs.Names.{spelled, AreNames}
 
 -- the names of a map's entries, in order
@@ -18,7 +18,7 @@ offsets_from at (name ∷ names) = at ∷ offsets_from (at + (length name + 1)) 
 pub record IsIndexed {A : Type 0} (entries : List (Vec ℕ A × ℕ)) (bytes : List ℕ) : Type 0 where
   pub spells : bytes ≡ (0 ∷ 0 ∷ 0 ∷ 0 ∷ []) ++ spelled (names_in entries)
   pub offsets : map (λ e. e.1) entries ≡ offsets_from 4 (names_in entries)
-  pub within : length bytes ≤ TABLE_LIMIT
+  pub within : length bytes ≤ FILE_LIMIT
   pub names : AreNames (names_in entries)
 
 -- the offset of a name that a map has
@@ -30,4 +30,4 @@ found_in entries name = lookup (λ key. bytes_eq name key.items) entries
 abbrev pub IsPlaced : {A : Type 0} → Option ℕ → Vec ℕ A → List (Vec ℕ A × ℕ) → List (Vec ℕ A × ℕ) → List ℕ → List ℕ → ℕ → Type 0
 IsPlaced (Some at) name old new before after strx = (strx ≡ at) × (new ≡ old) × (after ≡ before)
 IsPlaced None name old new before after strx =
-    (strx ≡ length before) × (new ≡ old ++ (name, strx) ∷ []) × (after ≡ before ++ (name.items ++ 0 ∷ [])) × (length after ≤ TABLE_LIMIT)
+    (strx ≡ length before) × (new ≡ old ++ (name, strx) ∷ []) × (after ≡ before ++ (name.items ++ 0 ∷ [])) × (length after ≤ FILE_LIMIT)

@@ -2,12 +2,13 @@
 -- After a.out(5). That each distinct name stands once, in order of first use, is this project's own.
 use Rattle.std.specs.Prelude.{◌≡◌, ◌≢◌, ℕ, ◌+◌, ◌<◌, Bool, if◌then◌else◌, List, [], ◌∷◌, ◌++◌, length, fold, All, AllPairs, bytes_eq}
 use Rattle.std.specs.List.{list_any, before_first}
-use Rattle.std.specs.Int.{bytes_high_first, bytes_low_first}
+use Rattle.st_base.specs.Faults.{fault_at}
+use Rattle.st_base.specs.Number.{bytes_of}
 use Rattle.st_base.specs.declared.fault.Refused.{Refused}
 use Rattle.st_base.specs.declared.fault.Refused.TheVariants as refused
 use Rattle.st_base.specs.declared.fault.TheConstants.{TOO_LARGE}
-use Rattle.strtab.specs.declared.table.TheConstants.{TABLE_LIMIT}
-use Rattle.strtab.specs.StringTable.{fault_at, HasNoZero}
+use Rattle.st_base.specs.declared.sizes.TheConstants.{FILE_LIMIT}
+use Rattle.strtab.specs.StringTable.{HasNoZero}
 
 -- the names, each with the zero byte that ends it
 abbrev pub spelled : List (List ℕ) → List ℕ
@@ -18,13 +19,9 @@ spelled (name ∷ names) = name ++ (0 ∷ spelled names)
 abbrev pub size_of : List (List ℕ) → ℕ
 size_of names = 4 + length (spelled names)
 
--- the four bytes that spell a number
-abbrev pub word_of : Bool → ℕ → List ℕ
-word_of big n = if big then bytes_high_first 4 n else bytes_low_first 0 4 n
-
 -- the table of these names: its length word, then the names in order
 abbrev pub table_of : Bool → List (List ℕ) → List ℕ
-table_of big names = word_of big (size_of names) ++ spelled names
+table_of big names = bytes_of big 4 (size_of names) ++ spelled names
 
 -- the names before the first that equals this one: all of them where none does
 abbrev pub names_before : List (List ℕ) → List ℕ → List (List ℕ)
@@ -57,4 +54,4 @@ pub record AreNames (names : List (List ℕ)) : Type 0 where
 -- what a call answers whose table would have this size: out of memory, or too large, which comes only past the limit
 abbrev pub RefusesSize : ℕ → Refused → Type 0
 RefusesSize size refused.Memory = Unit {0}
-RefusesSize size (refused.At why) = (TABLE_LIMIT < size) × (why ≡ fault_at TOO_LARGE TABLE_LIMIT)
+RefusesSize size (refused.At why) = (FILE_LIMIT < size) × (why ≡ fault_at TOO_LARGE FILE_LIMIT)

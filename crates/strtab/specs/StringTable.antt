@@ -1,10 +1,8 @@
 -- The string table of an a.out file: a word of four bytes that gives the table's length and counts itself, and then names, each
 -- ended by a zero byte. An entry names itself by an offset into the table, counted from the word on; offset 0 is no name.
 -- After a.out(5).
-use Rattle.std.specs.Prelude.{◌≡◌, ℕ, ◌≤◌, Bool, true, false, ◌&&◌, ◌==◌, nat_lt, nat_le, if◌then◌else◌, List, [], length, take, drop, position, Option, Some, None, option_map}
+use Rattle.std.specs.Prelude.{◌≡◌, ℕ, ◌≤◌, Bool, ◌&&◌, ◌==◌, nat_lt, nat_le, if◌then◌else◌, List, [], length, take, drop, position, Option, Some, None, option_map}
 use Rattle.st_base.specs.Number.{number_at}
-pub use Rattle.st_base.specs.ByteOrder.{is_big}
-pub use Rattle.st_base.specs.Faults.{fault_at}
 
 -- the table begins with its own length
 pub record HasOwnLength (big : Bool) (table : List ℕ) : Type 0 where

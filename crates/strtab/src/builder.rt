@@ -1,18 +1,19 @@
-ghost use Rattle.std.specs.Prelude.{◌≡◌, ◌<◌, ◌≤◌, ◌+◌, ◌++◌, ◌∷◌, [], length, drop, IfOk, IfErr, OnOk, OnErr};
-ghost use Rattle.strtab.specs.StringTable.{is_big, fault_at, HasNoZero};
+ghost use Rattle.std.specs.Prelude.{◌≡◌, ◌<◌, ◌≤◌, ◌+◌, ◌++◌, ◌∷◌, [], length, IfOk, IfErr, OnOk, OnErr};
+ghost use Rattle.st_base.specs.ByteOrder.{is_big};
+ghost use Rattle.strtab.specs.StringTable.{HasNoZero};
 ghost use Rattle.strtab.specs.Names as spec;
 ghost use Rattle.strtab.specs.Builder.{found_in, IsPlaced};
 
-use crate::table::TABLE_LIMIT;
-use byteorder::{BigEndian, ByteOrder, LittleEndian};
 use indexmap::IndexMap;
 use indexmap::map::Entry;
-use st_base::{Fault, Memory, Order, Refused, TOO_LARGE, Text};
+use st_base::{
+    FILE_LIMIT, Fault, Memory, Order, Refused, TOO_LARGE, Text, WORD_SIZE, set_first_word,
+};
 use std::alloc::Global;
 use std::marker::Model;
 
 /// The zero bytes that stand for the length word until `Builder::finish`.
-const NO_WORD: [u8; 4] = [0; 4];
+const NO_WORD: [u8; WORD_SIZE] = [0; WORD_SIZE];
 
 /// A string table that is being built: each distinct name stands in it once, in order of first use.
 ///
@@ -37,32 +38,17 @@ impl Model for Builder {
     ghost invariant = { λ b. IsIndexed b.names.entries b.table };
 }
 
-// Writes a number over the first four bytes.
-fn put_word(order: Order, bytes: &mut [u8], number: u32)
-    requires { 4 ≤ length bytes.old }
-    ensures { bytes.new ≡ spec.word_of (is_big order) number ++ drop 4 bytes.old }
-{
-    match order {
-        Order::Little => LittleEndian::write_u32(bytes, number),
-        Order::Big => BigEndian::write_u32(bytes, number),
-    }
-}
-
 // Appends a name and its zero byte, or changes nothing.
 fn append(table: &mut Text, name: &[u8]) -> Result<(), Refused>
-    requires { length table.old ≤ TABLE_LIMIT }
+    requires { length table.old ≤ FILE_LIMIT }
     ensures ok { OnOk result (table.new ≡ table.old ++ (name.now ++ 0 ∷ [])) }
-    ensures fits { OnOk result (length table.old + (length name.now + 1) ≤ TABLE_LIMIT) }
+    ensures fits { OnOk result (length table.old + (length name.now + 1) ≤ FILE_LIMIT) }
     ensures refused { IfErr result (spec.RefusesSize (length table.old + (length name.now + 1))) }
     ensures err { OnErr result (table.new ≡ table.old) }
 {
     let before = table.bytes().len();
-    if TABLE_LIMIT - before <= name.len() {
-        return Err(Refused::At(Fault {
-            number: TOO_LARGE,
-            place: TABLE_LIMIT as u64,
-            within: 0,
-        }));
+    if FILE_LIMIT - before as u64 <= name.len() as u64 {
+        return Err(Refused::At(Fault::at(TOO_LARGE, FILE_LIMIT)));
     }
     table.extend(name)?;
     if table.push(0).is_err() {
@@ -78,7 +64,7 @@ fn place(
     table: &mut Text,
     name: Vec<u8>,
 ) -> Result<u32, Refused>
-    requires { length table.old ≤ TABLE_LIMIT }
+    requires { length table.old ≤ FILE_LIMIT }
     ensures placed { IfOk result (λ strx. IsPlaced (found_in names.old.entries name.items) name
         names.old.entries names.new.entries table.old table.new strx) }
     ensures refused { IfErr result (spec.RefusesSize (length table.old + (length name.items + 1))) }
@@ -111,25 +97,23 @@ impl Builder {
     pub fn new(alloc: Global) -> Result<Builder, Memory>
         ensures { IfOk result (λ b. b ≡ []) }
     {
-        let mut table = Text::new(alloc);
-        table.extend(&NO_WORD)?;
         Ok(Builder {
             alloc,
             names: IndexMap::new(alloc),
-            table,
+            table: Text::of(alloc, &NO_WORD)?,
         })
     }
 
     /// Adds a name, and answers its offset: where it stands already, else the table's end, where it goes
     /// now. An empty name takes no place and has offset 0. The condition is that the name has no zero byte.
     ///
-    /// Refused as `TOO_LARGE`, at place `TABLE_LIMIT`, exactly where the table would have more bytes; out of
+    /// Refused as `TOO_LARGE`, at place `FILE_LIMIT`, exactly where the table would have more bytes; out of
     /// memory is an answer of its own. A refusal changes nothing. The name is looked up once.
     pub fn add(&mut self, name: &[u8]) -> Result<u32, Refused>
         requires { HasNoZero name.now }
         ensures names { OnOk result (self.new ≡ spec.added self.old name.now) }
         ensures strx { IfOk result (λ strx. strx ≡ spec.offset_of self.new name.now) }
-        ensures fits { spec.size_of self.new ≤ TABLE_LIMIT }
+        ensures fits { spec.size_of self.new ≤ FILE_LIMIT }
 
         // A fault comes only where the table would pass the limit, and then it is this one.
         ensures refused { IfErr result (spec.RefusesSize
@@ -149,7 +133,7 @@ impl Builder {
     pub fn finish(self, order: Order) -> Text
         ensures table { result ≡ spec.table_of (is_big order) self }
         ensures lawful { spec.AreNames self }
-        ensures fits { spec.size_of self ≤ TABLE_LIMIT }
+        ensures fits { spec.size_of self ≤ FILE_LIMIT }
     {
         let Builder {
             names: _,
@@ -157,49 +141,7 @@ impl Builder {
             alloc: _,
         } = self;
         let size = table.bytes().len() as u32;
-        put_word(order, table.bytes_mut(), size);
+        set_first_word(order, table.bytes_mut(), size);
         table
-    }
-}
-
-#[cfg(test)]
-mod tests {
-    use super::*;
-    use crate::table::{check_table, name_at};
-    use std::test::Fail;
-
-    #[test]
-    fn each_name_stands_once_in_order_of_first_use(rt: HostRuntime) -> Result<(), Fail> {
-        let little = [
-            12, 0, 0, 0, // the length word
-            b'a', b'.', b'c', 0, // at 4
-            b'i', b'n', b't', 0, // at 8
-        ];
-        let big = [
-            0, 0, 0, 12, // the length word
-            b'a', b'.', b'c', 0, // at 4
-            b'i', b'n', b't', 0, // at 8
-        ];
-        for (order, expected) in [(Order::Little, little), (Order::Big, big)] {
-            let mut builder = Builder::new(rt.alloc())?;
-            assert_eq!(rt; builder.add(b"a.c")?, 4);
-            assert_eq!(rt; builder.add(b"")?, 0);
-            assert_eq!(rt; builder.add(b"int")?, 8);
-            assert_eq!(rt; builder.add(b"a.c")?, 4, "the same name again");
-            let table = builder.finish(order);
-            assert_eq!(rt; table.bytes(), expected.as_slice());
-            assert_eq!(rt; check_table(order, table.bytes()), Ok(()));
-            assert_eq!(rt; name_at(table.bytes(), 8), Ok(b"int".as_slice()));
-        }
-        Ok(())
-    }
-
-    #[test]
-    fn a_table_without_names_is_its_word(rt: HostRuntime) -> Result<(), Fail> {
-        let little = Builder::new(rt.alloc())?.finish(Order::Little);
-        assert_eq!(rt; little.bytes(), [4, 0, 0, 0].as_slice());
-        let big = Builder::new(rt.alloc())?.finish(Order::Big);
-        assert_eq!(rt; big.bytes(), [0, 0, 0, 4].as_slice());
-        Ok(())
     }
 }

@@ -11,4 +11,4 @@ mod table;
 
 pub use builder::Builder;
 pub use laws::{names_are_found, uses_are_found};
-pub use table::{TABLE_LIMIT, check_table, name_at};
+pub use table::{check_table, name_at};
