@@ -16,12 +16,12 @@ Reader A = List ℕ → Outcome A
 
 -- ---- code that reads
 
--- the code refuses: memory was wanting, or reading stops there
+-- the code refuses: out of memory, or reading stops there
 abbrev pub Fails : {Y : Type 0} → Refusal → Result Y Stop → Type 0
 Fails refusal.Memory read = Unit {0}
 Fails (refusal.At stop) read = read ≡ Err stop
 
--- the code answers what reading gives, unless memory was wanting
+-- the code answers what reading gives, unless out of memory
 abbrev pub Gives : {X Y : Type 0} → (X → Y) → Result X Refusal → Result Y Stop → Type 0
 Gives view (Ok x) read = read ≡ Ok (view x)
 Gives view (Err e) read = Fails e read

@@ -131,41 +131,5 @@ pub fn text_of(alloc: Global, bytes: &[u8]) -> Result<Text, Refusal>
     ensures value { IfOk result (λ t. t ≡ bytes.now) }
     ensures memory { (e : Refusal) → result ≡ Err e → e ≡ Refusal.Memory }
 {
-    let mut text = Text::new(alloc);
-    text.extend(bytes)?;
-    Ok(text)
-}
-
-#[cfg(test)]
-mod tests {
-    use super::*;
-
-    #[test]
-    fn a_number_ends_before_its_limit(rt: HostRuntime) {
-        // `21` at most 20: the second digit is left
-        let read = number_at(20, b"21");
-        assert!(rt; matches!(read, Ok((2, [b'1']))));
-        assert!(rt; matches!(number_at(20, b""), Err(Refusal::At(Stop::End))));
-        assert!(rt; matches!(number_and(20, b',', b"7;x"), Err(Refusal::At(Stop::Bad(2)))));
-    }
-
-    #[test]
-    fn a_name_ends_at_its_byte(rt: HostRuntime) {
-        assert!(rt; matches!(name_at(b':', 0, b"a;:x"), Ok(([b'a', b';'], [b'x']))));
-        assert!(rt; matches!(name_at(b':', b';', b"a;:x"), Err(Refusal::At(Stop::Bad(3)))));
-        assert!(rt; matches!(name_at(b':', 0, b"a"), Err(Refusal::At(Stop::End))));
-    }
-
-    #[test]
-    fn digits_end_at_another_byte_or_where_they_are_enough(rt: HostRuntime) {
-        assert!(rt; matches!(digits_at(39, b"007x"), Ok(([b'0', b'0', b'7'], [b'x']))));
-        assert!(rt; matches!(digits_at(1, b"007"), Ok(([b'0', b'0'], [b'7']))));
-    }
-
-    #[test]
-    fn a_text_has_the_same_bytes(rt: HostRuntime) -> Result<(), Refusal> {
-        let text = text_of(rt.alloc(), b"int")?;
-        assert_eq!(rt; text.bytes(), b"int".as_slice());
-        Ok(())
-    }
+    Ok(Text::of(alloc, bytes)?)
 }

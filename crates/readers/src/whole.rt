@@ -33,25 +33,3 @@ pub fn whole_number(limit: u32, bytes: &[u8]) -> Option<u32>
 {
     read_whole(limit, bytes)
 }
-
-#[cfg(test)]
-mod tests {
-    use super::*;
-
-    #[test]
-    fn a_whole_number_has_no_other_bytes(rt: HostRuntime) {
-        assert_eq!(rt; whole_number(u32::MAX, b"0"), Some(0));
-        assert_eq!(rt; whole_number(u32::MAX, b"4294967295"), Some(u32::MAX));
-        for word in [
-            b"".as_slice(),
-            b"00".as_slice(),
-            b"01".as_slice(),
-            b"+1".as_slice(),
-            b"1 ".as_slice(),
-            b"4294967296".as_slice(),
-            b"99999999999999999999".as_slice(),
-        ] {
-            assert_eq!(rt; whole_number(u32::MAX, word), None);
-        }
-    }
-}
