@@ -1,6 +1,6 @@
 -- Worked values of what a call may answer. The files hold the bytes 1 2 3 under the name `a`, and the sink
 -- holds the byte 7.
-use Rattle.std.proofs.Common.{◌≡◌, List, ℕ, [], ◌∷◌, Some, None, refl, lit≤, lit<, ◌∙◌, arith}
+use Rattle.std.proofs.Common.{◌≡◌, List, ℕ, [], ◌∷◌, ◌++◌, length, Some, None, refl, ap, lit≤, lit<, ◌∙◌, arith, length-append}
 use Rattle.std.specs.Prelude.{codes}
 use Rattle.std.specs.Cmp.Lexicographic.{nat_list_cmp_total}
 use Rattle.std.specs.FinMap.{get, insert, empty, get-insert, get-empty}
@@ -8,6 +8,9 @@ use Rattle.outside.specs.Causes.{Contents, Rose, Loads, Stores, Puts, last_count
 use Rattle.outside.specs.declared.files.Loaded.TheVariants as loaded
 use Rattle.outside.specs.declared.files.Stored.TheVariants as stored
 use Rattle.outside.specs.declared.sink.Put.TheVariants as put
+use Rattle.outside.specs.declared.transfer.Step.TheVariants as step
+use Rattle.outside.specs.declared.transfer.Stop.TheVariants as stop
+use Rattle.outside.specs.Transfer.{ReadsOnce, ReadsWhole, stopped}
 
 abbrev a : List ℕ
 a = codes "a"
@@ -86,3 +89,27 @@ Stores-failed failed = absurd (omega (arith, failed.1))
 -- a put that fails may have appended the first of two bytes
 Puts-failed : Puts (Some (7 ∷ [])) (Some (7 ∷ 8 ∷ [])) 0 1 (8 ∷ 9 ∷ []) put.Failed
 Puts-failed = ((8 ∷ [], 9 ∷ [], refl, refl), lit≤ tt)
+
+-- ---- reading to the end
+
+-- out of memory is told as such
+stopped-memory : stopped stop.Memory ≡ loaded.Memory
+stopped-memory = refl
+
+-- a read that fails took nothing of what was left
+ReadsOnce-failed : ReadsOnce (Some bytes) (Some bytes) a a 3 (step.Stops stop.Failed)
+ReadsOnce-failed = (refl, refl)
+
+ReadsOnce-took : ¬ (ReadsOnce (Some bytes) (Some []) a a 3 (step.Stops stop.Failed))
+ReadsOnce-took failed = let kept : [] ≡ bytes = failed.1 in absurd cc
+
+-- a load for at most two bytes may fail behind two of three bytes, and not behind all three
+ReadsWhole-failed : ReadsWhole (Some bytes) (Some (3 ∷ [])) 2 loaded.Failed
+ReadsWhole-failed = (1 ∷ 2 ∷ [], lit≤ tt, refl)
+
+ReadsWhole-took : ¬ (ReadsWhole (Some bytes) (Some []) 2 loaded.Failed)
+ReadsWhole-took failed =
+    let all : bytes ≡ failed.0 ++ [] = failed.2 in
+    let size : 3 ≡ length (failed.0 ++ []) = ap (λ (l : List ℕ). length l) all in
+    let same = length-append failed.0 [] in
+    absurd (omega (arith, failed.1, size, same))

@@ -2,7 +2,11 @@
 use Rattle.std.proofs.Common.{◌≡◌, ℕ, ◌+◌, ◌-◌, ◌≤◌, List, [], ◌++◌, length, take, drop, Option, Some, None, ap, sym, ◌∙◌, append_assoc, append-nil, length-append, length-drop, arith}
 use Rattle.std.specs.Io.KnownBytes.{Appends, Consumes, Keeps}
 use Rattle.std.proofs.lemmas.List.{take-append-drop, take_all}
-use Rattle.outside.specs.Transfer.{AppendsFront, TakesAtMost}
+use Rattle.outside.specs.declared.files.Loaded.{Loaded}
+use Rattle.outside.specs.declared.transfer.Step.TheVariants as step
+use Rattle.outside.specs.declared.transfer.Stop.{Stop}
+use Rattle.outside.specs.declared.transfer.Stop.TheVariants as stop
+use Rattle.outside.specs.Transfer.{AppendsFront, ReadsOnce, ReadsWhole, stopped, TakesAtMost}
 
 -- ---- reads
 
@@ -19,6 +23,20 @@ TakesAtMost-more limit room (Some xs) None new text read more within = absurd re
 TakesAtMost-more limit room (Some xs) (Some ys) None text read more within = absurd more.2
 TakesAtMost-more limit room (Some xs) (Some ys) (Some zs) text read more within =
     (text ++ more.0, omega (arith, length-append text more.0, more.1), read ∙ ap (λ (t : List ℕ). text ++ t) more.2 ∙ sym (append_assoc text more.0 zs))
+
+-- a read that fails leaves what was taken before it
+pub TakesAtMost-failed : (limit : ℕ) (old between new : Option (List ℕ)) (text : List ℕ) → Consumes old between text → Keeps between new → length text ≤ limit → TakesAtMost limit old new
+TakesAtMost-failed limit None between new text read kept within = ([], omega arith, tt)
+TakesAtMost-failed limit (Some xs) None new text read kept within = absurd read
+TakesAtMost-failed limit (Some xs) (Some ys) None text read kept within = absurd kept
+TakesAtMost-failed limit (Some xs) (Some ys) (Some zs) text read kept within =
+    (text, within, read ∙ ap (λ (t : List ℕ). text ++ t) (sym kept))
+
+-- a load whose reading stops answers that it failed only where at most so many bytes were read
+pub ReadsWhole-stopped : (most room : ℕ) (old between new : Option (List ℕ)) (text after : List ℕ) (why : Stop) (answer : Loaded) → answer ≡ stopped why
+    → Consumes old between text → ReadsOnce between new text after room (step.Stops why) → length text ≤ most → ReadsWhole old new most answer
+ReadsWhole-stopped most room old between new text after stop.Failed answer is read once within = rw is (TakesAtMost-failed most old between new text read once.1 within)
+ReadsWhole-stopped most room old between new text after stop.Memory answer is read once within = rw is tt
 
 pub ruleset takes = (TakesAtMost-keep)
 

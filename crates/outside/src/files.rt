@@ -15,7 +15,7 @@ pub enum Loaded {
     Long,
     /// The load failed.
     Failed,
-    /// Want of memory.
+    /// Out of memory.
     Memory,
 }
 
@@ -26,7 +26,7 @@ pub enum Stored {
     Done,
     /// The store failed.
     Failed,
-    /// Want of memory.
+    /// Out of memory.
     Memory,
 }
 
@@ -52,7 +52,7 @@ pub trait Files {
         ensures later { load_faults self.old ≤ load_faults self.new }
         ensures stores { store_faults self.new ≡ store_faults self.old };
 
-    /// Makes these bytes the content of a name. After want of memory nothing changed; after a failure
+    /// Makes these bytes the content of a name. After out of memory nothing changed; after a failure
     /// nothing is said of this name, and all other contents stay.
     fn store(&mut self, alloc: Global, name: &Text, bytes: &Text) -> Stored
         ensures answer { Stores (held self.old) (held self.new) (store_faults self.old) (store_faults self.new) name.now bytes.now result }

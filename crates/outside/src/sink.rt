@@ -8,7 +8,7 @@ pub enum Put {
     Done,
     /// The put failed.
     Failed,
-    /// Want of memory.
+    /// Out of memory.
     Memory,
 }
 
@@ -20,7 +20,7 @@ pub trait Sink {
     /// How many puts failed, or as many as the count can hold.
     ghost faults: { Self → ℕ };
 
-    /// Appends bytes. After want of memory nothing changed; after a failure a prefix of them is appended.
+    /// Appends bytes. After out of memory nothing changed; after a failure a prefix of them is appended.
     fn put(&mut self, bytes: &[u8]) -> Put
         ensures answer { Puts (written self.old) (written self.new) (faults self.old) (faults self.new) bytes.now result }
         ensures later { faults self.old ≤ faults self.new };

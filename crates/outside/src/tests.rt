@@ -1,128 +1,132 @@
-ghost use Rattle.std.specs.Prelude.{◌≡◌, IfOk};
+use crate::files::Loaded;
+use crate::sink::{Put, Sink};
+use crate::stream_sink::StreamSink;
+use crate::transfer::{read_whole, write_through};
+use std::io;
+use std::io::{ErrorKind, Read, Write};
 
-use crate::*;
-use st_base::{Memory, Text};
-use std::alloc::Global;
-use std::fs;
-use std::fs::File;
-use std::test::Fail;
+/// The number of a call that never comes.
+const NEVER: usize = 99;
 
-fn text_of(alloc: Global, bytes: &[u8]) -> Result<Text, Memory>
-    ensures { IfOk result (λ text. text ≡ bytes.now) }
-{
-    let mut text = Text::new(alloc);
-    text.extend(bytes)?;
-    Ok(text)
+/// Gives at most `step` of its bytes at a read, and fails at the read of this number, counted from 0.
+#[derive(Drop)]
+struct Reader {
+    left: &'static [u8],
+    step: usize,
+    reads: usize,
+    fails_at: usize,
 }
 
-/// More bytes than one read is asked for.
-fn long_text(alloc: Global) -> Result<Text, Memory> {
-    let mut text = Text::new(alloc);
-    for number in 0..150_001u32 {
-        text.push((number % 251) as u8)?;
+impl Read for Reader {
+    fn read(&mut self, buf: &mut [u8]) -> io::Result<usize> {
+        let number = self.reads;
+        self.reads = number.saturating_add(1);
+        if number == self.fails_at {
+            return Err(io::Error::from(ErrorKind::ConnectionReset));
+        }
+        let count = self.left.len().min(buf.len()).min(self.step);
+        buf[..count].copy_from_slice(&self.left[..count]);
+        self.left = &self.left[count..];
+        Ok(count)
     }
-    Ok(text)
 }
 
-fn is_bytes(loaded: &Loaded, expected: &[u8]) -> bool {
-    match loaded {
-        Loaded::Bytes(text) => text.bytes() == expected,
+/// Takes at most `step` bytes at a write, and fails at the write of this number, counted from 0, or at a flush.
+#[derive(Clone, Copy, Drop)]
+struct Writer {
+    taken: usize,
+    step: usize,
+    writes: usize,
+    fails_at: usize,
+    flushes: bool,
+}
+
+impl Write for Writer {
+    fn write(&mut self, buf: &[u8]) -> io::Result<usize> {
+        let number = self.writes;
+        self.writes = number.saturating_add(1);
+        if number == self.fails_at {
+            return Err(io::Error::from(ErrorKind::ConnectionReset));
+        }
+        let count = buf.len().min(self.step);
+        self.taken = self.taken.saturating_add(count);
+        Ok(count)
+    }
+
+    fn flush(&mut self) -> io::Result<()> {
+        if self.flushes {
+            Ok(())
+        } else {
+            Err(io::Error::from(ErrorKind::ConnectionReset))
+        }
+    }
+}
+
+/// Whether a load answered these bytes, or failed where there are none.
+fn is_answer(loaded: &Loaded, expected: Option<&[u8]>) -> bool {
+    match (loaded, expected) {
+        (Loaded::Bytes(text), Some(bytes)) => text.bytes() == bytes,
+        (Loaded::Failed, None) => true,
         _ => false,
     }
 }
 
 #[test]
-fn a_file_is_stored_and_loaded(rt: HostRuntime) -> Result<(), Fail> {
-    let alloc = rt.alloc();
-    let name = b"outside_stored.tmp".as_slice();
-    let bytes = long_text(alloc)?;
-    let mut files = DiskFiles::new(rt.clone()?);
-    let stored = files.store(alloc, &text_of(alloc, name)?, &bytes);
-    assert_eq!(rt; stored, Stored::Done);
-    let exact = files.load(alloc, text_of(alloc, name)?, 150_001);
-    assert!(rt; is_bytes(&exact, bytes.bytes()));
-    let long = files.load(alloc, text_of(alloc, name)?, 150_000);
-    assert!(rt; matches!(&long, Loaded::Long));
-    fs::remove_file(&rt, "outside_stored.tmp")?;
-    let absent = files.load(alloc, text_of(alloc, name)?, 150_001);
-    assert!(rt; matches!(&absent, Loaded::Absent));
-    Ok(())
-}
-
-#[test]
-fn a_folder_and_a_name_that_is_no_text_fail(rt: HostRuntime) -> Result<(), Fail> {
-    let alloc = rt.alloc();
-    let mut files = DiskFiles::new(rt.clone()?);
-    for name in [b".".as_slice(), b"\xff".as_slice()] {
-        let loaded = files.load(alloc, text_of(alloc, name)?, 9);
-        assert!(rt; matches!(&loaded, Loaded::Failed));
-        let stored = files.store(alloc, &text_of(alloc, name)?, &text_of(alloc, b"a")?);
-        assert_eq!(rt; stored, Stored::Failed);
+fn a_reader_is_read_to_its_end_or_fails(rt: HostRuntime) {
+    let rows = [
+        ("all at once", 9, NEVER, Some(b"stabs".as_slice())),
+        ("two bytes at a time", 2, NEVER, Some(b"stabs".as_slice())),
+        ("nothing is given", 0, NEVER, Some(b"".as_slice())),
+        ("fails at the first read", 2, 0, None),
+        ("fails in mid-stream", 2, 2, None),
+        ("fails behind the last byte", 2, 3, None),
+    ];
+    for (label, step, fails_at, expected) in rows {
+        let mut reader = Reader {
+            left: b"stabs",
+            step,
+            reads: 0,
+            fails_at,
+        };
+        let loaded = read_whole(rt.alloc(), &mut reader, 5);
+        assert!(rt; is_answer(&loaded, expected), "{label}");
     }
-    Ok(())
 }
 
 #[test]
-fn what_a_sink_takes_stands_in_the_file(rt: HostRuntime) -> Result<(), Fail> {
-    let alloc = rt.alloc();
-    let mut sink = StreamSink::new(File::create(&rt, "outside_printed.tmp")?);
-    assert_eq!(rt; sink.put(b"stab\n"), Put::Done);
-    assert_eq!(rt; sink.put(b""), Put::Done);
-    assert_eq!(rt; sink.put(b"\x00\xff"), Put::Done);
-    let mut files = DiskFiles::new(rt.clone()?);
-    let loaded = files.load(alloc, text_of(alloc, b"outside_printed.tmp")?, 7);
-    fs::remove_file(&rt, "outside_printed.tmp")?;
-    assert!(rt; is_bytes(&loaded, b"stab\n\x00\xff"));
-    Ok(())
+fn a_writer_takes_all_bytes_or_the_put_fails(rt: HostRuntime) {
+    let rows = [
+        ("all at once", 9, NEVER, true, Put::Done, 5),
+        ("two bytes at a time", 2, NEVER, true, Put::Done, 5),
+        ("takes nothing of a piece", 0, NEVER, true, Put::Failed, 0),
+        ("fails at the first write", 2, 0, true, Put::Failed, 0),
+        ("fails in mid-stream", 2, 1, true, Put::Failed, 2),
+        ("fails at the flush", 9, NEVER, false, Put::Failed, 5),
+    ];
+    for (label, step, fails_at, flushes, expected, taken) in rows {
+        let mut writer = Writer {
+            taken: 0,
+            step,
+            writes: 0,
+            fails_at,
+            flushes,
+        };
+        assert_eq!(rt; StreamSink::new(writer).put(b"stabs"), expected, "{label}");
+        let done = write_through(&mut writer, b"stabs");
+        assert_eq!(rt; done, expected == Put::Done, "{label}");
+        assert_eq!(rt; writer.taken, taken, "{label}");
+    }
 }
 
 #[test]
-fn files_in_memory_answer(rt: HostRuntime) -> Result<(), Fail> {
-    let alloc = rt.alloc();
-    let name = b"a.o".as_slice();
-    let mut files = MemoryFiles::new(alloc);
-    files.fail_at(2)?;
-    files.fail_at(4)?;
-    files.hold(text_of(alloc, name)?, text_of(alloc, b"one")?)?;
-    let held = files.load(alloc, text_of(alloc, name)?, 3);
-    assert!(rt; is_bytes(&held, b"one"));
-    let long = files.load(alloc, text_of(alloc, name)?, 2);
-    assert!(rt; matches!(&long, Loaded::Long));
-    let failed = files.store(alloc, &text_of(alloc, name)?, &text_of(alloc, b"two")?);
-    assert_eq!(rt; failed, Stored::Failed);
-    let stored = files.store(alloc, &text_of(alloc, name)?, &text_of(alloc, b"two")?);
-    assert_eq!(rt; stored, Stored::Done);
-    let failed = files.load(alloc, text_of(alloc, name)?, 3);
-    assert!(rt; matches!(&failed, Loaded::Failed));
-    let replaced = files.load(alloc, text_of(alloc, name)?, 3);
-    assert!(rt; is_bytes(&replaced, b"two"));
-    Ok(())
-}
-
-#[test]
-fn sure_files_answer(rt: HostRuntime) -> Result<(), Fail> {
-    let alloc = rt.alloc();
-    let mut files = SureFiles::new(alloc);
-    files.hold(text_of(alloc, b"a.o")?, text_of(alloc, b"one")?)?;
-    let stored = files.store(alloc, &text_of(alloc, b"b.o")?, &text_of(alloc, b"two")?);
-    assert_eq!(rt; stored, Stored::Done);
-    let held = files.load(alloc, text_of(alloc, b"a.o")?, 9);
-    assert!(rt; is_bytes(&held, b"one"));
-    let new = files.load(alloc, text_of(alloc, b"b.o")?, 9);
-    assert!(rt; is_bytes(&new, b"two"));
-    Ok(())
-}
-
-#[test]
-fn sinks_in_memory_answer(rt: HostRuntime) -> Result<(), Fail> {
-    let mut sink = MemorySink::new(rt.alloc());
-    sink.fail_at(1)?;
-    assert_eq!(rt; sink.put(b"one "), Put::Done);
-    assert_eq!(rt; sink.put(b"two "), Put::Failed);
-    assert_eq!(rt; sink.put(b"three"), Put::Done);
-    assert_eq!(rt; sink.written(), b"one three".as_slice());
-    let mut sure = SureSink::new(rt.alloc());
-    assert_eq!(rt; sure.put(b"one"), Put::Done);
-    assert_eq!(rt; sure.written(), b"one".as_slice());
-    Ok(())
+fn a_put_after_one_that_failed_is_answered_for_itself(rt: HostRuntime) {
+    let mut sink = StreamSink::new(Writer {
+        taken: 0,
+        step: 2,
+        writes: 0,
+        fails_at: 1,
+        flushes: true,
+    });
+    assert_eq!(rt; sink.put(b"stabs"), Put::Failed);
+    assert_eq!(rt; sink.put(b"stabs"), Put::Done);
 }

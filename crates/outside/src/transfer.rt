@@ -1,6 +1,7 @@
 ghost use Rattle.std.specs.Prelude.{◌≡◌, ◌+◌, ◌<◌, length, vec_len, IfOk};
 ghost use Rattle.std.specs.Bool.{OnTrue, OnFalse};
 ghost use Rattle.std.specs.Io.KnownBytes.{Appends};
+ghost use Rattle.outside.specs.Transfer as spec;
 ghost use Rattle.outside.specs.Transfer.{ReadsOnce, ReadsWhole, TakesAtMost, AppendsFront};
 
 use crate::files::Loaded;
@@ -11,6 +12,15 @@ use std::io::{Read, Write};
 /// How many bytes a reader is asked for at once: a large file takes few reads.
 const PIECE: usize = 65536;
 
+/// Why reading stops before the end.
+#[derive(Clone, Copy, Drop)]
+pub enum Stop {
+    /// The read failed, and gave nothing.
+    Failed,
+    /// Out of memory: what was read is lost.
+    Memory,
+}
+
 /// What one read came to.
 #[derive(Clone, Copy, Drop)]
 pub enum Step {
@@ -18,10 +28,18 @@ pub enum Step {
     More,
     /// Nothing is left.
     End,
-    /// The read failed.
-    Failed,
-    /// Want of memory.
-    Memory,
+    /// Reading stops here.
+    Stops(Stop),
+}
+
+/// The answer of a load whose reading stops: out of memory is never a failed read.
+fn stopped(why: Stop) -> Loaded
+    ensures { result ≡ spec.stopped why }
+{
+    match why {
+        Stop::Failed => Loaded::Failed,
+        Stop::Memory => Loaded::Memory,
+    }
 }
 
 /// So many bytes to read into.
@@ -39,11 +57,11 @@ fn read_more<R: Read>(from: &mut R, room: &mut [u8], text: &mut Text) -> Step
     ensures asked { TakesAtMost (length room.old) (R.remaining from.old) (R.remaining from.new) }
 {
     match from.read(room) {
-        Err(_) => Step::Failed,
+        Err(_) => Step::Stops(Stop::Failed),
         Ok(0) => Step::End,
         Ok(count) => match text.extend(&room[..count]) {
             Ok(()) => Step::More,
-            Err(_) => Step::Memory,
+            Err(_) => Step::Stops(Stop::Memory),
         },
     }
 }
@@ -51,7 +69,7 @@ fn read_more<R: Read>(from: &mut R, room: &mut [u8], text: &mut Text) -> Step
 /// As `read_whole`, with bytes to read into.
 fn read_by<R: Read>(alloc: Global, from: &mut R, most: u64, room: &mut [u8]) -> Loaded
     requires { 0 < length room.old }
-    ensures read { ReadsWhole (R.remaining from.old) most result }
+    ensures read { ReadsWhole (R.remaining from.old) (R.remaining from.new) most result }
     ensures asked { TakesAtMost (most + 1) (R.remaining from.old) (R.remaining from.new) }
 {
     let mut text = Text::new(alloc);
@@ -61,17 +79,17 @@ fn read_by<R: Read>(alloc: Global, from: &mut R, most: u64, room: &mut [u8]) -> 
         match read_more(from, &mut room[..asked], &mut text) {
             Step::More => {}
             Step::End => return Loaded::Bytes(text),
-            Step::Failed => return Loaded::Failed,
-            Step::Memory => return Loaded::Memory,
+            Step::Stops(why) => return stopped(why),
         }
     }
     Loaded::Long
 }
 
 /// What a reader has left, if it has at most `most` bytes. It is asked for at most `most` + 1 bytes in all,
-/// and a read that gives nothing is the end.
+/// and a read that gives nothing is the end. `Failed` is a read that failed, before which the reader gave at
+/// most `most` bytes; `Memory` is out of memory.
 pub fn read_whole<R: Read>(alloc: Global, from: &mut R, most: u64) -> Loaded
-    ensures read { ReadsWhole (R.remaining from.old) most result }
+    ensures read { ReadsWhole (R.remaining from.old) (R.remaining from.new) most result }
     ensures asked { TakesAtMost (most + 1) (R.remaining from.old) (R.remaining from.new) }
 {
     match room_of(alloc, PIECE) {
