@@ -12,10 +12,12 @@ use Rattle.st_base.specs.declared.fault.Refused.{Refused}
 use Rattle.st_base.specs.declared.fault.Refused.TheVariants as refused
 use Rattle.aout_layout.specs.declared.header.Header.{Header}
 use Rattle.aout_object.specs.Objects.{Contents, header_for, ObjectSpells}
-use Rattle.aout_object.specs.Reading.{fault_or, contents_in, entries_part, strings_part, all_relocs_fault, entries_fault, places_fault, records_fault, header_in, fault_behind, FileFault, Answers, Decodes, Gives}
+use Rattle.aout_object.specs.Checks.{entries_part, strings_part, FileFault}
+use Rattle.aout_object.specs.Decoding.{fault_or, contents_in, all_relocs_fault, entries_fault, places_fault, records_fault, header_in, fault_behind, Answers, Decodes, Gives}
 use Rattle.aout_object.proofs.FileLemmas.{contents-spell}
 use Rattle.aout_object.proofs.FaultLemmas.{none-fault_or}
 use Rattle.aout_object.proofs.RecordLemmas.{fault_or-none}
+use Rattle.aout_object.proofs.StepLemmas.{file_checks-fault, FileFault-steps}
 use Rattle.aout_object.proofs.SpelledLemmas.{spelled-header, spelled-contents, spelled-passes}
 
 -- ---- one object, or one fault
@@ -37,20 +39,20 @@ one_fault bytes first other is is_other = let same : Some first ≡ Some other =
 
 -- it does not have both
 pub not_both : (bytes : List ℕ) (object : Contents) (fault : Fault) → IsBytes bytes → ObjectSpells object bytes → FileFault bytes fault → ⊥
-not_both bytes object fault are_bytes spells is = let same : Some fault ≡ None = sym is.first ∙ spelled-passes object bytes are_bytes spells in absurd cc
+not_both bytes object fault are_bytes spells is = let same : Some fault ≡ None = sym is.first ∙ file_checks-fault bytes ∙ spelled-passes object bytes are_bytes spells in absurd cc
 
 -- it has one of them
 pub object_or_fault : (bytes : List ℕ) → IsBytes bytes → ((object : Contents) × ObjectSpells object bytes) ⊎ ((fault : Fault) × FileFault bytes fault)
 object_or_fault bytes are_bytes = by_header (header_in bytes) refl where
   by_header : (header : Result Header Fault) → header_in bytes ≡ header → ((object : Contents) × ObjectSpells object bytes) ⊎ ((fault : Fault) × FileFault bytes fault)
-  by_header (Err fault) is = inr (fault, record { first = ap (λ (r : Result Header Fault). fault_behind r bytes) is })
+  by_header (Err fault) is = inr (fault, FileFault-steps bytes fault (ap (λ (r : Result Header Fault). fault_behind r bytes) is))
   by_header (Ok h) is = by_fault (fault_or (places_fault h bytes) (records_fault h bytes)) refl where
     by_fault : (found : Option Fault) → fault_or (places_fault h bytes) (records_fault h bytes) ≡ found
         → ((object : Contents) × ObjectSpells object bytes) ⊎ ((fault : Fault) × FileFault bytes fault)
     by_fault None none =
         let parts = fault_or-none (places_fault h bytes) (records_fault h bytes) none in
         inl (contents_in h bytes, contents-spell bytes h are_bytes is parts.0 parts.1)
-    by_fault (Some fault) found = inr (fault, record { first = ap (λ (r : Result Header Fault). fault_behind r bytes) is ∙ found })
+    by_fault (Some fault) found = inr (fault, FileFault-steps bytes fault (ap (λ (r : Result Header Fault). fault_behind r bytes) is ∙ found))
 
 -- ---- answers
 
@@ -79,22 +81,20 @@ read-whole bytes h parts entries strings relocs is_entries is_strings passes = (
 
 -- a header with a fault is the file's fault
 pub decodes-header : (bytes : List ℕ) (fault : Fault) → header_in bytes ≡ Err fault → FileFault bytes fault
-decodes-header bytes fault is = record { first = ap (λ (r : Result Header Fault). fault_behind r bytes) is }
+decodes-header bytes fault is = FileFault-steps bytes fault (ap (λ (r : Result Header Fault). fault_behind r bytes) is)
 
 -- a fault of the sizes is the file's fault
 pub decodes-sizes : (bytes : List ℕ) (h : Header) (fault : Fault) → header_in bytes ≡ Ok h → places_fault h bytes ≡ Some fault → FileFault bytes fault
-decodes-sizes bytes h fault is found = record {
-  first = ap (λ (r : Result Header Fault). fault_behind r bytes) is ∙ ap (λ (f : Option Fault). fault_or f (records_fault h bytes)) found;
-}
+decodes-sizes bytes h fault is found =
+    FileFault-steps bytes fault (ap (λ (r : Result Header Fault). fault_behind r bytes) is ∙ ap (λ (f : Option Fault). fault_or f (records_fault h bytes)) found)
 
 -- where the sizes pass, what the reading of the parts answers is what decoding answers
 pub decodes-parts : (bytes : List ℕ) (h : Header) (answer : Result Contents Refused) → IsBytes bytes → header_in bytes ≡ Ok h → places_fault h bytes ≡ None
     → Answers answer (records_fault h bytes) (contents_in h bytes) → Decodes answer bytes
 decodes-parts bytes h (Ok o) are_bytes is sizes told = subst (λ (x : Contents). ObjectSpells x bytes) (sym told.1) (contents-spell bytes h are_bytes is sizes told.0)
 decodes-parts bytes h (Err refused.Memory) are_bytes is sizes told = tt
-decodes-parts bytes h (Err (refused.At fault)) are_bytes is sizes told = record {
-  first = ap (λ (r : Result Header Fault). fault_behind r bytes) is ∙ ap (λ (f : Option Fault). fault_or f (records_fault h bytes)) sizes ∙ told;
-}
+decodes-parts bytes h (Err (refused.At fault)) are_bytes is sizes told =
+    FileFault-steps bytes fault (ap (λ (r : Result Header Fault). fault_behind r bytes) is ∙ ap (λ (f : Option Fault). fault_or f (records_fault h bytes)) sizes ∙ told)
 
 -- an object that spells the file is answered
 pub decodes-only : (bytes : List ℕ) (answer : Result Contents Refused) → IsBytes bytes → Decodes answer bytes → (o : Contents) → ObjectSpells o bytes → Gives answer (Ok o)

@@ -9,7 +9,7 @@ use Rattle.std.proofs.lemmas.List.Sums.{prefix_len_passes}
 use Rattle.std.proofs.lemmas.Option.{none-some}
 use Rattle.st_base.specs.declared.fault.TheConstants.{NO_END}
 use Rattle.strtab.specs.StringTable.{is_zero}
-use Rattle.aout_object.specs.Reading.{EndsNames, end_fault, fault_unless}
+use Rattle.aout_object.specs.Decoding.{EndsNames, end_fault, fault_unless}
 
 -- ---- zero bytes
 

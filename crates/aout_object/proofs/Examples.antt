@@ -2,10 +2,10 @@
 -- too long, and the object of a small file, in both byte orders.
 use Rattle.std.proofs.Common.{◌≡◌, ℕ, List, [], ◌∷◌, ◌++◌, refl}
 use Rattle.std.specs.Prelude.{Some, None, codes, take}
-use Rattle.st_base.specs.Faults.{fault_at}
+use Rattle.st_base.specs.Faults.{fault_at, first_fault}
 use Rattle.st_base.specs.declared.order.Order.TheVariants.{Little, Big}
 use Rattle.aout_object.specs.Objects.{Contents, file_of, named_of}
-use Rattle.aout_object.specs.Reading.{file_fault}
+use Rattle.aout_object.specs.Checks.{file_checks}
 use Rattle.aout_object.specs.Making.{made, make_fault}
 
 -- ---- a bare header
@@ -15,19 +15,19 @@ abbrev bare : List ℕ
 bare = 7 ∷ 1 ∷ 100 ∷ 0 ∷ 0 ∷ 0 ∷ 0 ∷ 0 ∷ 0 ∷ 0 ∷ 0 ∷ 0 ∷ 0 ∷ 0 ∷ 0 ∷ 0 ∷ 0 ∷ 0 ∷ 0 ∷ 0 ∷ 0 ∷ 0 ∷ 0 ∷ 0 ∷ 0 ∷ 0 ∷ 0 ∷ 0 ∷ 0 ∷ 0 ∷ 0 ∷ 0 ∷ []
 
 -- it needs no string table
-bare-fault : file_fault bare ≡ None
+bare-fault : first_fault (file_checks bare) ≡ None
 bare-fault = refl
 
 -- a byte behind it begins one
-bare-longer : file_fault (bare ++ 4 ∷ []) ≡ Some (fault_at 5 33)
+bare-longer : first_fault (file_checks (bare ++ 4 ∷ [])) ≡ Some (fault_at 5 33)
 bare-longer = refl
 
 -- and four bytes are one without names
-bare-table : file_fault (bare ++ 4 ∷ 0 ∷ 0 ∷ 0 ∷ []) ≡ None
+bare-table : first_fault (file_checks (bare ++ 4 ∷ 0 ∷ 0 ∷ 0 ∷ [])) ≡ None
 bare-table = refl
 
 -- its first word in the order that can't be told
-bare-orders : file_fault (7 ∷ 1 ∷ 1 ∷ 7 ∷ []) ≡ Some (fault_at 5 4)
+bare-orders : first_fault (file_checks (7 ∷ 1 ∷ 1 ∷ 7 ∷ [])) ≡ Some (fault_at 5 4)
 bare-orders = refl
 
 -- ---- a file of two bytes of text and the entry `a.c`
@@ -54,15 +54,15 @@ small-file : file_of small ≡ little_header ++ little_behind
 small-file = refl
 
 -- the file has no fault
-small-fault : file_fault (little_header ++ little_behind) ≡ None
+small-fault : first_fault (file_checks (little_header ++ little_behind)) ≡ None
 small-fault = refl
 
 -- without its last byte it is too short
-small-short : file_fault (take 53 (little_header ++ little_behind)) ≡ Some (fault_at 5 53)
+small-short : first_fault (file_checks (take 53 (little_header ++ little_behind))) ≡ Some (fault_at 5 53)
 small-short = refl
 
 -- with a byte more it is too long
-small-long : file_fault (little_header ++ (little_behind ++ 0 ∷ [])) ≡ Some (fault_at 6 54)
+small-long : first_fault (file_checks (little_header ++ (little_behind ++ 0 ∷ []))) ≡ Some (fault_at 6 54)
 small-long = refl
 
 -- its entry is named

@@ -12,7 +12,8 @@ use Rattle.aout_layout.specs.declared.header.Header.{Header}
 use Rattle.nlist_codec.specs.declared.entry.Entry.{Entry}
 use Rattle.strtab.specs.StringTable.{HasOwnLength, name_in, is_zero}
 use Rattle.aout_object.specs.Objects.{IsAccepted}
-use Rattle.aout_object.specs.Reading.{fault_or, fault_unless, end_fault, name_fault, entries_fault, table_at, is_absent, word_in, table_fault, trailing_fault}
+use Rattle.aout_object.specs.Checks.{table_at, is_absent, word_in}
+use Rattle.aout_object.specs.Decoding.{fault_or, fault_unless, end_fault, name_fault, entries_fault, table_fault, trailing_fault}
 use Rattle.aout_object.proofs.RecordLemmas.{fault_or-none}
 
 -- ---- one test

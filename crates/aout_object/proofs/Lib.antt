@@ -8,3 +8,4 @@ pub mod NameLemmas
 pub mod PlaceLemmas
 pub mod RecordLemmas
 pub mod SpelledLemmas
+pub mod StepLemmas

@@ -13,25 +13,25 @@ use Rattle.st_base.specs.ByteOrder.{is_big}
 use Rattle.st_base.specs.declared.fault.Fault.{Fault}
 use Rattle.st_base.specs.declared.fault.Refused.{Refused}
 use Rattle.st_base.specs.declared.fault.Refused.TheVariants as refused
-use Rattle.aout_layout.specs.Headers.{header_size, header_bytes}
+use Rattle.st_base.specs.declared.sizes.TheConstants.{HEADER_SIZE, ENTRY_SIZE, RELOC_SIZE, FILE_LIMIT, GREATEST_ADDRESS}
+use Rattle.aout_layout.specs.Headers.{header_bytes}
 use Rattle.aout_layout.specs.declared.header.TheConstants.{TWO_ORDERS}
 use Rattle.nlist_codec.specs.declared.entry.Entry.{Entry}
 use Rattle.nlist_codec.specs.declared.named.Named.{Named}
-use Rattle.nlist_codec.specs.Entries.{EntryFits, entry_size, entry_bytes}
+use Rattle.nlist_codec.specs.Entries.{EntryFits, entry_bytes}
 use Rattle.reloc.specs.declared.reloc.Reloc.{Reloc}
-use Rattle.reloc.specs.Relocs.{RelocFits, reloc_size, reloc_bytes}
-use Rattle.strtab.specs.Names.{RefusesSize, size_of, spelled, offset_of, first_uses, added, table_of, word_of}
+use Rattle.reloc.specs.Relocs.{RelocFits, reloc_bytes}
+use Rattle.strtab.specs.Names.{RefusesSize, size_of, spelled, offset_of, first_uses, added, table_of}
 use Rattle.strtab.specs.StringTable.{HasNoZero}
 use Rattle.strtab.proofs.AddedLemmas.{added-there, added-new}
-use Rattle.strtab.proofs.NamesLemmas.{spelled-append, length-word_of}
+use Rattle.strtab.proofs.NamesLemmas.{spelled-append}
 use Rattle.strtab.proofs.UsesLemmas.{name_in-first_uses, offset_of-later}
-use Rattle.strtab.proofs.WordLemmas.{HasOwnLength-table_of}
+use Rattle.strtab.proofs.WordLemmas.{HasOwnLength-table_of, length-table_of}
 use Rattle.aout_object.specs.declared.parts.Parts.{Parts}
 use Rattle.aout_object.specs.Objects.{Contents, header_for, relocs_bytes, entries_bytes, behind_header, file_of, IsReloc, IsAccepted, ObjectFits, name_of, named_entry, all_named, named_of}
-use Rattle.aout_object.specs.Reading.{Answers, fault_unless}
+use Rattle.aout_object.specs.Decoding.{Answers, fault_unless}
 use Rattle.aout_object.specs.Making.{names_of, HasWholeName, entry_at, entry_for, entries_for, made, kinds_fault, addresses_fault, size_fault, length_fault}
 use Rattle.st_base.specs.declared.fault.TheConstants.{TOO_LARGE}
-use Rattle.aout_object.specs.declared.make.TheConstants.{HIGHEST, FILE_LIMIT}
 use Rattle.aout_object.proofs.RecordLemmas.{fault_or-none, length-flat_map_each, length-reloc_bytes, length-entry_bytes}
 use Rattle.aout_object.proofs.FaultLemmas.{fault_unless-none}
 
@@ -125,8 +125,8 @@ RefusesSize-more less more (refused.At why) known refuses = (omega (arith, known
 -- ---- the object that is made
 
 -- the length of an object's file
-pub length-file_of : (o : Contents) → length (file_of o) ≡ header_size + length o.parts.text + length o.parts.data_part + length o.parts.text_relocs * reloc_size
-    + length o.parts.data_relocs * reloc_size + length o.entries * entry_size + length o.strings
+pub length-file_of : (o : Contents) → length (file_of o) ≡ HEADER_SIZE + length o.parts.text + length o.parts.data_part + length o.parts.text_relocs * RELOC_SIZE
+    + length o.parts.data_relocs * RELOC_SIZE + length o.entries * ENTRY_SIZE + length o.strings
 length-file_of o =
     let big = is_big o.parts.order in
     let front = length-append (header_bytes (header_for o)) (behind_header big o) in
@@ -135,9 +135,9 @@ length-file_of o =
     let text_relocs = length-append (relocs_bytes big o.parts.text_relocs) (relocs_bytes big o.parts.data_relocs ++ (entries_bytes big o.entries ++ o.strings)) in
     let data_relocs = length-append (relocs_bytes big o.parts.data_relocs) (entries_bytes big o.entries ++ o.strings) in
     let entries = length-append (entries_bytes big o.entries) o.strings in
-    let a = length-flat_map_each (reloc_bytes big) reloc_size (length-reloc_bytes big) o.parts.text_relocs in
-    let b = length-flat_map_each (reloc_bytes big) reloc_size (length-reloc_bytes big) o.parts.data_relocs in
-    let c = length-flat_map_each (entry_bytes big) entry_size (length-entry_bytes big) o.entries in
+    let a = length-flat_map_each (reloc_bytes big) RELOC_SIZE (length-reloc_bytes big) o.parts.text_relocs in
+    let b = length-flat_map_each (reloc_bytes big) RELOC_SIZE (length-reloc_bytes big) o.parts.data_relocs in
+    let c = length-flat_map_each (entry_bytes big) ENTRY_SIZE (length-entry_bytes big) o.entries in
     omega (arith, front, text, data_part, text_relocs, data_relocs, entries, a, b, c)
 
 -- each name is among the names
@@ -178,17 +178,13 @@ named_of-made parts named whole = named-made (is_big parts.order) (names_of name
 pub relocs-fit : (relocs : List Reloc) → All RelocFits relocs → All (λ r. r.address < 2 ^ 32) relocs → AllByRecursion IsReloc relocs
 relocs-fit relocs fits words = recursion_from_All IsReloc relocs (λ k d within. record { address = words k d within; fits = fits k d within })
 
--- the length of a table
-pub length-table_of : (big : Bool) (names : List (List ℕ)) → length (table_of big names) ≡ size_of names
-length-table_of big names = length-append (word_of big (size_of names)) (spelled names) ∙ ap (λ (n : ℕ). n + length (spelled names)) (length-word_of big (size_of names))
-
 -- the object can be written, where nothing is wrong with it
 pub made-fits : (parts : Parts) (named : List Named) → All HasWholeName named → parts.machine ≢ TWO_ORDERS → parts.machine < 2 ^ 16
     → AllByRecursion IsReloc parts.text_relocs → AllByRecursion IsReloc parts.data_relocs → All EntryFits (made parts named).entries
     → kinds_fault 0 named ≡ None → addresses_fault parts ≡ None → size_fault (made parts named) ≡ None → ObjectFits (made parts named)
 made-fits parts named whole told machine text_relocs data_relocs entries kinds addresses size =
     let o : Contents = made parts named in
-    let highest = leb-true (parts.entry + length parts.text + length parts.data_part + parts.bss) HIGHEST (fault_unless-none _ _ _ addresses) in
+    let highest = leb-true (parts.entry + length parts.text + length parts.data_part + parts.bss) GREATEST_ADDRESS (fault_unless-none _ _ _ addresses) in
     let limit = leb-true (length (file_of o)) FILE_LIMIT (fault_unless-none _ _ _ size) in
     let sum = length-file_of o in
     let table : length o.strings ≡ size_of (first_uses (names_of named)) = length-table_of (is_big parts.order) (first_uses (names_of named)) in
@@ -225,7 +221,7 @@ size-made : (parts : Parts) (named : List Named) (count table : ℕ) → count �
 size-made parts named count table is_count is_table =
     let sum = length-file_of (made parts named) in
     let entries : length (made parts named).entries ≡ length named = length-map named (entry_for (first_uses (names_of named))) in
-    let same : length (file_of (made parts named)) ≡ header_size + length parts.text + length parts.data_part + (length parts.text_relocs + length parts.data_relocs) * reloc_size + count * entry_size + table =
+    let same : length (file_of (made parts named)) ≡ HEADER_SIZE + length parts.text + length parts.data_part + (length parts.text_relocs + length parts.data_relocs) * RELOC_SIZE + count * ENTRY_SIZE + table =
     omega (arith, sum, entries, is_count, is_table) in
     ap (λ (n : ℕ). fault_unless (nat_le n FILE_LIMIT) TOO_LARGE FILE_LIMIT) same
 

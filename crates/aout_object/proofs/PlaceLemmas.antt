@@ -1,7 +1,7 @@
 -- The places of the parts of a file: what is cut out at them stands in sequence, and what stands in sequence is cut out at them.
 use Rattle.std.proofs.Common.{◌≡◌, ℕ, ◌+◌, ◌≤◌, List, ◌++◌, length, take, drop, sym, ap, ◌∙◌, arith, length-drop, take-append-drop}
 use Rattle.std.proofs.lemmas.List.{length-take-le, take_at, drop_at, drop-drop}
-use Rattle.aout_object.specs.Reading.{part}
+use Rattle.aout_object.specs.Checks.{part}
 
 -- ---- from places to a sequence
 

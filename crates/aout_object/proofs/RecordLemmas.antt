@@ -9,14 +9,15 @@ use Rattle.st_base.specs.declared.fault.Fault.{Fault}
 use Rattle.st_base.specs.Faults.{first_fault, unless}
 use Rattle.st_base.specs.Number.{number_at, IsBytes}
 use Rattle.st_base.proofs.BytesLemmas.{IsBytes-take, IsBytes-drop, number-bytes_of, number-lt}
+use Rattle.st_base.specs.declared.sizes.TheConstants.{ENTRY_SIZE, RELOC_SIZE}
 use Rattle.nlist_codec.specs.declared.entry.Entry.{Entry}
-use Rattle.nlist_codec.specs.Entries.{EntryFits, entry_size, entry_of, entry_bytes}
+use Rattle.nlist_codec.specs.Entries.{EntryFits, entry_of, entry_bytes}
 use Rattle.nlist_codec.proofs.EntryLemmas.{read-write}
 use Rattle.reloc.specs.declared.reloc.Reloc.{Reloc}
-use Rattle.reloc.specs.Relocs.{Spells, reloc_size, reloc_of, reloc_bytes, reloc_checks, read}
+use Rattle.reloc.specs.Relocs.{Spells, reloc_of, reloc_bytes, reloc_checks, read}
 use Rattle.reloc.proofs.RelocLemmas.{read-spelled, spelled-read, write-spelled, spelled-write}
 use Rattle.aout_object.specs.Objects.{IsReloc, relocs_bytes, entries_bytes}
-use Rattle.aout_object.specs.Reading.{fault_or, fault_of, relocs_fault}
+use Rattle.aout_object.specs.Decoding.{fault_or, fault_of, relocs_fault}
 
 -- ---- lists cut into pieces
 
@@ -67,7 +68,7 @@ read_value None place value none = refl
 read_value (Some fault) place value none = absurd cc
 
 -- a relocation has eight bytes
-pub length-reloc_bytes : (big : Bool) (r : Reloc) → length (reloc_bytes big r) ≡ reloc_size
+pub length-reloc_bytes : (big : Bool) (r : Reloc) → length (reloc_bytes big r) ≡ RELOC_SIZE
 length-reloc_bytes big r = refl
 
 -- the first piece of bytes that hold one more
@@ -79,23 +80,23 @@ other_pieces : (n k : ℕ) (bytes : List ℕ) → length bytes ≡ suc k * n →
 other_pieces n k bytes whole = let behind = length-drop n bytes in omega (arith, behind, whole)
 
 -- relocations that are read without a fault are written as the bytes, and can be written
-pub relocs-read : (big : Bool) (place k : ℕ) (bytes : List ℕ) → IsBytes bytes → length bytes ≡ k * reloc_size
-    → relocs_fault big place (first_chunks reloc_size k bytes) ≡ None
-    → (relocs_bytes big (map (reloc_of big) (first_chunks reloc_size k bytes)) ≡ bytes)
-    × AllByRecursion IsReloc (map (reloc_of big) (first_chunks reloc_size k bytes))
+pub relocs-read : (big : Bool) (place k : ℕ) (bytes : List ℕ) → IsBytes bytes → length bytes ≡ k * RELOC_SIZE
+    → relocs_fault big place (first_chunks RELOC_SIZE k bytes) ≡ None
+    → (relocs_bytes big (map (reloc_of big) (first_chunks RELOC_SIZE k bytes)) ≡ bytes)
+    × AllByRecursion IsReloc (map (reloc_of big) (first_chunks RELOC_SIZE k bytes))
 relocs-read big place zero bytes are_bytes whole none = (sym (no_items bytes (omega (arith, whole))), tt)
 relocs-read big place (suc k) bytes are_bytes whole none =
-    let piece : List ℕ = take reloc_size bytes in
+    let piece : List ℕ = take RELOC_SIZE bytes in
     let parts = fault_or-none _ _ none in
-    let length_is : length piece ≡ reloc_size = first_piece reloc_size k bytes whole in
-    let piece_bytes : IsBytes piece = IsBytes-take reloc_size bytes are_bytes in
+    let length_is : length piece ≡ RELOC_SIZE = first_piece RELOC_SIZE k bytes whole in
+    let piece_bytes : IsBytes piece = IsBytes-take RELOC_SIZE bytes are_bytes in
     let answer : read big piece ≡ Ok (reloc_of big piece) = read_value (first_fault (reloc_checks big piece)) place (reloc_of big piece) parts.0 in
     let spells : Spells big (reloc_of big piece) piece = read-spelled big piece (reloc_of big piece) piece_bytes length_is answer in
-    let rest = relocs-read big (place + 1) k (drop reloc_size bytes) (IsBytes-drop reloc_size bytes are_bytes) (other_pieces reloc_size k bytes whole) parts.1 in
+    let rest = relocs-read big (place + 1) k (drop RELOC_SIZE bytes) (IsBytes-drop RELOC_SIZE bytes are_bytes) (other_pieces RELOC_SIZE k bytes whole) parts.1 in
     let address = number_at-lt big piece 0 4 piece_bytes (omega (arith, length_is)) in
-    let others : List ℕ = relocs_bytes big (map (reloc_of big) (first_chunks reloc_size k (drop reloc_size bytes))) in (
+    let others : List ℕ = relocs_bytes big (map (reloc_of big) (first_chunks RELOC_SIZE k (drop RELOC_SIZE bytes))) in (
       ap (λ (x : List ℕ). x ++ others) (spelled-write big (reloc_of big piece) piece piece_bytes length_is spells)
-          ∙ ap (λ (x : List ℕ). piece ++ x) rest.0 ∙ take-append-drop reloc_size bytes,
+          ∙ ap (λ (x : List ℕ). piece ++ x) rest.0 ∙ take-append-drop RELOC_SIZE bytes,
       (record { address = address; fits = spells.fits }, rest.1),
     )
 
@@ -114,11 +115,11 @@ relocs-written big place (r ∷ relocs) all =
 -- ---- entries
 
 -- an entry has twelve bytes
-pub length-entry_bytes : (big : Bool) (e : Entry) → length (entry_bytes big e) ≡ entry_size
+pub length-entry_bytes : (big : Bool) (e : Entry) → length (entry_bytes big e) ≡ ENTRY_SIZE
 length-entry_bytes big e = refl
 
 -- the numbers of an entry that was read fit their fields
-entry-fits : (big : Bool) (piece : List ℕ) → IsBytes piece → length piece ≡ entry_size → EntryFits (entry_of big piece)
+entry-fits : (big : Bool) (piece : List ℕ) → IsBytes piece → length piece ≡ ENTRY_SIZE → EntryFits (entry_of big piece)
 entry-fits big piece are_bytes whole = record {
   strx = number_at-lt big piece 0 4 are_bytes (omega (arith, whole));
   kind = number_at-lt big piece 4 1 are_bytes (omega (arith, whole));
@@ -139,18 +140,18 @@ entry-written big e fits =
     (number-bytes_of big 2 e.desc fits.desc) (number-bytes_of big 4 e.value fits.value)
 
 -- entries that are read are written as the bytes, and can be written
-pub entries-read : (big : Bool) (k : ℕ) (bytes : List ℕ) → IsBytes bytes → length bytes ≡ k * entry_size
-    → (entries_bytes big (map (entry_of big) (first_chunks entry_size k bytes)) ≡ bytes)
-    × AllByRecursion EntryFits (map (entry_of big) (first_chunks entry_size k bytes))
+pub entries-read : (big : Bool) (k : ℕ) (bytes : List ℕ) → IsBytes bytes → length bytes ≡ k * ENTRY_SIZE
+    → (entries_bytes big (map (entry_of big) (first_chunks ENTRY_SIZE k bytes)) ≡ bytes)
+    × AllByRecursion EntryFits (map (entry_of big) (first_chunks ENTRY_SIZE k bytes))
 entries-read big zero bytes are_bytes whole = (sym (no_items bytes (omega (arith, whole))), tt)
 entries-read big (suc k) bytes are_bytes whole =
-    let piece : List ℕ = take entry_size bytes in
-    let length_is : length piece ≡ entry_size = first_piece entry_size k bytes whole in
-    let piece_bytes : IsBytes piece = IsBytes-take entry_size bytes are_bytes in
-    let rest = entries-read big k (drop entry_size bytes) (IsBytes-drop entry_size bytes are_bytes) (other_pieces entry_size k bytes whole) in
-    let others : List ℕ = entries_bytes big (map (entry_of big) (first_chunks entry_size k (drop entry_size bytes))) in (
+    let piece : List ℕ = take ENTRY_SIZE bytes in
+    let length_is : length piece ≡ ENTRY_SIZE = first_piece ENTRY_SIZE k bytes whole in
+    let piece_bytes : IsBytes piece = IsBytes-take ENTRY_SIZE bytes are_bytes in
+    let rest = entries-read big k (drop ENTRY_SIZE bytes) (IsBytes-drop ENTRY_SIZE bytes are_bytes) (other_pieces ENTRY_SIZE k bytes whole) in
+    let others : List ℕ = entries_bytes big (map (entry_of big) (first_chunks ENTRY_SIZE k (drop ENTRY_SIZE bytes))) in (
       ap (λ (x : List ℕ). x ++ others) (read-write big piece piece_bytes length_is)
-          ∙ ap (λ (x : List ℕ). piece ++ x) rest.0 ∙ take-append-drop entry_size bytes,
+          ∙ ap (λ (x : List ℕ). piece ++ x) rest.0 ∙ take-append-drop ENTRY_SIZE bytes,
       (entry-fits big piece piece_bytes length_is, rest.1),
     )
 

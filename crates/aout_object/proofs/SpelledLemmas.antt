@@ -3,7 +3,7 @@ use Rattle.std.proofs.Common.{◌≡◌, ℕ, ◌+◌, ◌/◌, ◌≤◌, Bool,
 use Rattle.std.specs.Prelude.{None, Result, Ok, Err, if◌then◌else◌, ◌==◌, map, ◌⊎◌}
 use Rattle.std.specs.List.{AllByRecursion}
 use Rattle.std.specs.Simd.{first_chunks}
-use Rattle.std.proofs.lemmas.Bool.{and_from, eq-eqb, le-leb, le-ltb}
+use Rattle.std.proofs.lemmas.Bool.{and_from, eq-eqb, le-leb}
 use Rattle.std.proofs.lemmas.List.{take_at, drop_at}
 use Rattle.st_base.specs.ByteOrder.{is_big}
 use Rattle.st_base.specs.Faults.{fault_at}
@@ -11,16 +11,18 @@ use Rattle.st_base.specs.Number.{IsBytes}
 use Rattle.st_base.specs.declared.fault.Fault.{Fault}
 use Rattle.st_base.specs.declared.fault.TheConstants.{TRUNCATED}
 use Rattle.st_base.proofs.BytesLemmas.{IsBytes-take}
+use Rattle.st_base.specs.declared.sizes.TheConstants.{HEADER_SIZE, ENTRY_SIZE, RELOC_SIZE}
 use Rattle.aout_layout.specs.declared.header.Header.{Header}
-use Rattle.aout_layout.specs.Headers.{header_size, header_bytes, read}
+use Rattle.aout_layout.specs.Headers.{header_bytes, read}
 use Rattle.aout_layout.proofs.HeaderLemmas.{spelled-read, write-spelled}
 use Rattle.nlist_codec.specs.declared.entry.Entry.{Entry}
-use Rattle.nlist_codec.specs.Entries.{EntryFits, entry_size, entry_of, entry_bytes, entries_in}
+use Rattle.nlist_codec.specs.Entries.{EntryFits, entry_of, entry_bytes, entries_in}
 use Rattle.reloc.specs.declared.reloc.Reloc.{Reloc}
-use Rattle.reloc.specs.Relocs.{reloc_size, reloc_of, reloc_bytes}
+use Rattle.reloc.specs.Relocs.{reloc_of, reloc_bytes}
 use Rattle.strtab.specs.StringTable.{HasOwnLength}
 use Rattle.aout_object.specs.Objects.{Contents, header_for, relocs_bytes, entries_bytes, behind_header, HasTable, ObjectSpells}
-use Rattle.aout_object.specs.Reading.{fault_or, data_at, text_relocs_at, data_relocs_at, entries_at, table_at, part, reloc_pieces, relocs_in, text_relocs_part, data_relocs_part, entries_part, contents_in, is_absent, parts_fault, table_fault, trailing_fault, places_fault, relocs_fault, entries_fault, records_fault, header_in, fault_behind, file_fault}
+use Rattle.aout_object.specs.Checks.{data_at, text_relocs_at, data_relocs_at, entries_at, table_at, part, reloc_pieces, text_relocs_part, data_relocs_part, entries_part, is_absent}
+use Rattle.aout_object.specs.Decoding.{fault_or, relocs_in, contents_in, parts_fault, table_fault, trailing_fault, places_fault, relocs_fault, entries_fault, records_fault, header_in, fault_behind, file_fault}
 use Rattle.aout_object.proofs.FaultLemmas.{none-fault_unless, none-fault_or, none-entries_fault, table-passes}
 use Rattle.aout_object.proofs.PlaceLemmas.{part-here, drop-part}
 use Rattle.aout_object.proofs.RecordLemmas.{length-flat_map_each, chunks-flat_map, length-reloc_bytes, relocs-written, length-entry_bytes, entries-written}
@@ -30,17 +32,17 @@ use Rattle.aout_object.proofs.RecordLemmas.{length-flat_map_each, chunks-flat_ma
 -- the relocations that were written in a row, read
 relocs_in-bytes : (big : Bool) (relocs : List Reloc) → reloc_pieces (relocs_bytes big relocs) ≡ map (reloc_bytes big) relocs
 relocs_in-bytes big relocs =
-    let size = length-flat_map_each (reloc_bytes big) reloc_size (length-reloc_bytes big) relocs in
-    let count : length (relocs_bytes big relocs) / reloc_size ≡ length relocs = omega (arith, size) in
-    ap (λ (k : ℕ). first_chunks reloc_size k (relocs_bytes big relocs)) count ∙ chunks-flat_map (reloc_bytes big) reloc_size (length-reloc_bytes big) relocs
+    let size = length-flat_map_each (reloc_bytes big) RELOC_SIZE (length-reloc_bytes big) relocs in
+    let count : length (relocs_bytes big relocs) / RELOC_SIZE ≡ length relocs = omega (arith, size) in
+    ap (λ (k : ℕ). first_chunks RELOC_SIZE k (relocs_bytes big relocs)) count ∙ chunks-flat_map (reloc_bytes big) RELOC_SIZE (length-reloc_bytes big) relocs
 
 -- the entries that were written in a row, read
 entries_in-bytes : (big : Bool) (entries : List Entry) → AllByRecursion EntryFits entries → entries_in big (entries_bytes big entries) ≡ entries
 entries_in-bytes big entries all =
-    let size = length-flat_map_each (entry_bytes big) entry_size (length-entry_bytes big) entries in
-    let count : length (entries_bytes big entries) / entry_size ≡ length entries = omega (arith, size) in
-    ap (λ (k : ℕ). map (entry_of big) (first_chunks entry_size k (entries_bytes big entries))) count
-    ∙ ap (map (entry_of big)) (chunks-flat_map (entry_bytes big) entry_size (length-entry_bytes big) entries)
+    let size = length-flat_map_each (entry_bytes big) ENTRY_SIZE (length-entry_bytes big) entries in
+    let count : length (entries_bytes big entries) / ENTRY_SIZE ≡ length entries = omega (arith, size) in
+    ap (λ (k : ℕ). map (entry_of big) (first_chunks ENTRY_SIZE k (entries_bytes big entries))) count
+    ∙ ap (map (entry_of big)) (chunks-flat_map (entry_bytes big) ENTRY_SIZE (length-entry_bytes big) entries)
     ∙ entries-written big entries all
 
 -- ---- an object made of parts
@@ -76,26 +78,26 @@ module _ (o : Contents) (bytes : List ℕ) (are_bytes : IsBytes bytes) (spells :
   big = is_big o.parts.order
 
   -- the first bytes are the header's
-  front_is : take header_size bytes ≡ header_bytes h
-  front_is = ap (take header_size) spells.sequence ∙ take_at (header_bytes h) (behind_header big o) header_size refl
+  front_is : take HEADER_SIZE bytes ≡ header_bytes h
+  front_is = ap (take HEADER_SIZE) spells.sequence ∙ take_at (header_bytes h) (behind_header big o) HEADER_SIZE refl
 
   -- the parts stand behind it
-  text_behind : drop header_size bytes ≡ behind_header big o
-  text_behind = ap (drop header_size) spells.sequence ∙ drop_at (header_bytes h) (behind_header big o) header_size refl
+  text_behind : drop HEADER_SIZE bytes ≡ behind_header big o
+  text_behind = ap (drop HEADER_SIZE) spells.sequence ∙ drop_at (header_bytes h) (behind_header big o) HEADER_SIZE refl
 
   -- the sizes of relocations and entries
   text_relocs_size : length (relocs_bytes big o.parts.text_relocs) ≡ h.text_relocs
-  text_relocs_size = length-flat_map_each (reloc_bytes big) reloc_size (length-reloc_bytes big) o.parts.text_relocs
+  text_relocs_size = length-flat_map_each (reloc_bytes big) RELOC_SIZE (length-reloc_bytes big) o.parts.text_relocs
 
   data_relocs_size : length (relocs_bytes big o.parts.data_relocs) ≡ h.data_relocs
-  data_relocs_size = length-flat_map_each (reloc_bytes big) reloc_size (length-reloc_bytes big) o.parts.data_relocs
+  data_relocs_size = length-flat_map_each (reloc_bytes big) RELOC_SIZE (length-reloc_bytes big) o.parts.data_relocs
 
   entries_size : length (entries_bytes big o.entries) ≡ h.symbols
-  entries_size = length-flat_map_each (entry_bytes big) entry_size (length-entry_bytes big) o.entries
+  entries_size = length-flat_map_each (entry_bytes big) ENTRY_SIZE (length-entry_bytes big) o.entries
 
   -- what stands from each part on
   data_behind : drop (data_at h) bytes ≡ o.parts.data_part ++ (relocs_bytes big o.parts.text_relocs ++ (relocs_bytes big o.parts.data_relocs ++ (entries_bytes big o.entries ++ o.strings)))
-  data_behind = drop-part bytes header_size h.text o.parts.text _ text_behind refl
+  data_behind = drop-part bytes HEADER_SIZE h.text o.parts.text _ text_behind refl
 
   text_relocs_behind : drop (text_relocs_at h) bytes ≡ relocs_bytes big o.parts.text_relocs ++ (relocs_bytes big o.parts.data_relocs ++ (entries_bytes big o.entries ++ o.strings))
   text_relocs_behind = drop-part bytes (data_at h) h.data_part o.parts.data_part _ data_behind refl
@@ -110,8 +112,8 @@ module _ (o : Contents) (bytes : List ℕ) (are_bytes : IsBytes bytes) (spells :
   strings_behind = drop-part bytes (entries_at h) h.symbols (entries_bytes big o.entries) o.strings entries_behind entries_size
 
   -- each part lies at its place
-  text_is : part bytes header_size h.text ≡ o.parts.text
-  text_is = part-here bytes header_size h.text o.parts.text _ text_behind refl
+  text_is : part bytes HEADER_SIZE h.text ≡ o.parts.text
+  text_is = part-here bytes HEADER_SIZE h.text o.parts.text _ text_behind refl
 
   data_is : part bytes (data_at h) h.data_part ≡ o.parts.data_part
   data_is = part-here bytes (data_at h) h.data_part o.parts.data_part _ data_behind refl
@@ -144,11 +146,11 @@ module _ (o : Contents) (bytes : List ℕ) (are_bytes : IsBytes bytes) (spells :
   pub spelled-header : header_in bytes ≡ Ok h
   spelled-header =
       let size = length_is in
-      let long : header_size ≤ length bytes = omega (arith, size) in
-      let is_front : IsBytes (header_bytes h) = subst IsBytes front_is (IsBytes-take header_size bytes are_bytes) in
+      let long : HEADER_SIZE ≤ length bytes = omega (arith, size) in
+      let is_front : IsBytes (header_bytes h) = subst IsBytes front_is (IsBytes-take HEADER_SIZE bytes are_bytes) in
       let four : 4 ≤ length (header_bytes h) = omega arith in
       let answer : read (header_bytes h) ≡ Ok h = spelled-read (header_bytes h) h is_front four (write-spelled h spells.fits.numbers spells.fits.header) in
-      ap (λ (short : Bool). if short then Err (fault_at TRUNCATED (length bytes)) else read (take header_size bytes)) (le-ltb (length bytes) header_size long)
+      ap (λ (test : Bool). if test then read (take HEADER_SIZE bytes) else Err (fault_at TRUNCATED (length bytes))) (le-leb HEADER_SIZE (length bytes) long)
       ∙ ap read front_is ∙ answer
 
   -- what lies at the places is the object
@@ -184,8 +186,8 @@ module _ (o : Contents) (bytes : List ℕ) (are_bytes : IsBytes bytes) (spells :
       none-fault_or _ _
       (none-fault_or _ _ (ap (λ (x : List ℕ). relocs_fault big 0 (reloc_pieces x)) text_relocs_are
       ∙ ap (relocs_fault big 0) (relocs_in-bytes big o.parts.text_relocs) ∙ (relocs-written big 0 o.parts.text_relocs spells.fits.text_relocs).1)
-      (ap (λ (x : List ℕ). relocs_fault big (h.text_relocs / reloc_size) (reloc_pieces x)) data_relocs_are
-      ∙ ap (relocs_fault big (h.text_relocs / reloc_size)) (relocs_in-bytes big o.parts.data_relocs) ∙ (relocs-written big (h.text_relocs / reloc_size) o.parts.data_relocs spells.fits.data_relocs).1))
+      (ap (λ (x : List ℕ). relocs_fault big (h.text_relocs / RELOC_SIZE) (reloc_pieces x)) data_relocs_are
+      ∙ ap (relocs_fault big (h.text_relocs / RELOC_SIZE)) (relocs_in-bytes big o.parts.data_relocs) ∙ (relocs-written big (h.text_relocs / RELOC_SIZE) o.parts.data_relocs spells.fits.data_relocs).1))
       (ap (λ (x : List ℕ). entries_fault x 0 (entries_in big (entries_part h bytes))) strings_behind
       ∙ ap (λ (x : List ℕ). entries_fault o.strings 0 (entries_in big x)) entries_are
       ∙ ap (entries_fault o.strings 0) (entries_in-bytes big o.entries spells.fits.entries)

@@ -1,3 +1,4 @@
+pub mod Checks
+pub mod Decoding
 pub mod Making
 pub mod Objects
-pub mod Reading

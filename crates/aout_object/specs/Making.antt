@@ -4,18 +4,15 @@ use Rattle.std.specs.Prelude.{ℕ, ◌+◌, ◌*◌, nat_le, List, [], ◌∷◌
 use Rattle.st_base.specs.ByteOrder.{is_big}
 use Rattle.st_base.specs.declared.fault.Fault.{Fault}
 use Rattle.st_base.specs.declared.fault.TheConstants.{KIND}
-use Rattle.aout_layout.specs.Headers.{header_size}
-use Rattle.reloc.specs.Relocs.{reloc_size}
-use Rattle.nlist_codec.specs.Entries.{entry_size}
+use Rattle.st_base.specs.declared.sizes.TheConstants.{HEADER_SIZE, ENTRY_SIZE, RELOC_SIZE, FILE_LIMIT, GREATEST_ADDRESS}
 use Rattle.nlist_codec.specs.declared.entry.Entry.{Entry}
 use Rattle.nlist_codec.specs.declared.named.Named.{Named}
 use Rattle.strtab.specs.StringTable.{HasNoZero}
 use Rattle.strtab.specs.Names.{offset_of, first_uses, table_of}
 use Rattle.st_base.specs.declared.fault.TheConstants.{TOO_LARGE}
 use Rattle.aout_object.specs.declared.parts.Parts.{Parts}
-use Rattle.aout_object.specs.declared.make.TheConstants.{HIGHEST, FILE_LIMIT}
 use Rattle.aout_object.specs.Objects.{Contents, file_of, is_accepted_kind}
-use Rattle.aout_object.specs.Reading.{fault_or, fault_unless}
+use Rattle.aout_object.specs.Decoding.{fault_or, fault_unless}
 
 -- the names of entries, in order
 abbrev pub names_of : List Named → List (List ℕ)
@@ -52,7 +49,7 @@ kinds_fault place (n ∷ named) = fault_or (fault_unless (is_accepted_kind n.kin
 
 -- the end of bss passes the highest address
 abbrev pub addresses_fault : Parts → Option Fault
-addresses_fault parts = fault_unless (nat_le (parts.entry + length parts.text + length parts.data_part + parts.bss) HIGHEST) TOO_LARGE HIGHEST
+addresses_fault parts = fault_unless (nat_le (parts.entry + length parts.text + length parts.data_part + parts.bss) GREATEST_ADDRESS) TOO_LARGE GREATEST_ADDRESS
 
 -- the file passes its size limit
 abbrev pub size_fault : Contents → Option Fault
@@ -61,8 +58,8 @@ size_fault o = fault_unless (nat_le (length (file_of o)) FILE_LIMIT) TOO_LARGE F
 -- the same for a file of these parts, so many entries and a string table of so many bytes
 abbrev pub length_fault : Parts → ℕ → ℕ → Option Fault
 length_fault parts entries table =
-    fault_unless (nat_le (header_size + length parts.text + length parts.data_part + (length parts.text_relocs + length parts.data_relocs) * reloc_size
-    + entries * entry_size + table) FILE_LIMIT) TOO_LARGE FILE_LIMIT
+    fault_unless (nat_le (HEADER_SIZE + length parts.text + length parts.data_part + (length parts.text_relocs + length parts.data_relocs) * RELOC_SIZE
+    + entries * ENTRY_SIZE + table) FILE_LIMIT) TOO_LARGE FILE_LIMIT
 
 -- the first fault of parts and entries that make no object
 abbrev pub make_fault : Parts → List Named → Option Fault

@@ -3,13 +3,15 @@
 use Rattle.std.specs.Prelude.{◌≡◌, ℕ, ◌*◌, ◌^◌, ◌<◌, ◌||◌, nat_le, Bool, IsTrue, IsSome, ◌⊎◌, List, [], ◌++◌, length, map, flat_map, Option, Some, None}
 use Rattle.std.specs.List.{AllByRecursion}
 use Rattle.st_base.specs.ByteOrder.{is_big}
+use Rattle.st_base.specs.Stabs.{is_stab}
+use Rattle.st_base.specs.declared.sizes.TheConstants.{ENTRY_SIZE, RELOC_SIZE}
 use Rattle.aout_layout.specs.declared.header.Header.{Header}
 use Rattle.aout_layout.specs.Headers.{header_bytes, HeaderFits, NumbersFit}
 use Rattle.nlist_codec.specs.declared.entry.Entry.{Entry}
 use Rattle.nlist_codec.specs.declared.named.Named.{Named}
-use Rattle.nlist_codec.specs.Entries.{EntryFits, entry_size, entry_bytes}
+use Rattle.nlist_codec.specs.Entries.{EntryFits, entry_bytes}
 use Rattle.reloc.specs.declared.reloc.Reloc.{Reloc}
-use Rattle.reloc.specs.Relocs.{RelocFits, reloc_size, reloc_bytes}
+use Rattle.reloc.specs.Relocs.{RelocFits, reloc_bytes}
 use Rattle.strtab.specs.StringTable.{HasOwnLength, name_in}
 use Rattle.aout_object.specs.declared.parts.Parts.{Parts}
 
@@ -29,10 +31,10 @@ header_for o = record {
   text = length o.parts.text;
   data_part = length o.parts.data_part;
   bss = o.parts.bss;
-  symbols = length o.entries * entry_size;
+  symbols = length o.entries * ENTRY_SIZE;
   entry = o.parts.entry;
-  text_relocs = length o.parts.text_relocs * reloc_size;
-  data_relocs = length o.parts.data_relocs * reloc_size;
+  text_relocs = length o.parts.text_relocs * RELOC_SIZE;
+  data_relocs = length o.parts.data_relocs * RELOC_SIZE;
 }
 
 -- the bytes of relocations, one behind the other
@@ -60,9 +62,9 @@ pub record IsReloc (r : Reloc) : Type 0 where
   pub address : r.address < 2 ^ 32
   pub fits : RelocFits r
 
--- an accepted kind: a stab, which has one of the bits 0xe0 and so is at least 0x20, or one of 0 to 9
+-- an accepted kind: that of a stab, or one of 0 to 9
 abbrev pub is_accepted_kind : ℕ → Bool
-is_accepted_kind kind = nat_le 0x20 kind || nat_le kind 9
+is_accepted_kind kind = is_stab kind || nat_le kind 9
 
 -- an entry of an accepted kind, whose name the string table has
 pub record IsAccepted (strings : List ℕ) (entry : Entry) : Type 0 where

@@ -2,7 +2,7 @@ ghost use Rattle.std.specs.Prelude.{◌≡◌, ◌⊎◌, List, ℕ, None};
 ghost use Rattle.st_base.specs.Number.{IsBytes};
 ghost use Rattle.st_base.specs.declared.fault.Fault.{Fault};
 ghost use Rattle.aout_object.specs.Objects.{Contents, ObjectSpells};
-ghost use Rattle.aout_object.specs.Reading.{FileFault};
+ghost use Rattle.aout_object.specs.Checks.{FileFault};
 
 /// A file spells one object, an object has one file, and a file has either an object or a fault.
 ///

@@ -11,8 +11,6 @@ mod names;
 mod object;
 mod parts;
 mod read;
-#[cfg(test)]
-mod tests;
 mod write;
 
 pub use laws::object_laws;

@@ -9,28 +9,26 @@ ghost use Rattle.aout_layout.specs.declared.header.TheConstants.{TWO_ORDERS};
 ghost use Rattle.aout_object.specs.Objects.{named_of};
 ghost use Rattle.aout_object.specs.Making as spec;
 ghost use Rattle.aout_object.specs.Making.{HasWholeName};
-ghost use Rattle.aout_object.specs.Reading.{Answers};
+ghost use Rattle.aout_object.specs.Decoding.{Answers};
 
 use crate::object::Object;
 use crate::parts::Parts;
-use crate::read::{ENTRY_SIZE, HEADER_SIZE, RELOC_SIZE, fault_at};
+use crate::read::is_accepted_kind;
 use nlist_codec::{Entry, Named};
 use reloc::Reloc;
-use st_base::{Fault, KIND, List, Order, Refused, TOO_LARGE, Text};
+use st_base::{
+    ENTRY_SIZE, FILE_LIMIT, Fault, GREATEST_ADDRESS, HEADER_SIZE, KIND, List, Order, RELOC_SIZE,
+    Refused, TOO_LARGE, Text,
+};
 use std::alloc::Global;
 use strtab::Builder;
-
-/// The highest address of a file.
-const HIGHEST: usize = 4_294_967_295;
-/// The most bytes that a file may have.
-const FILE_LIMIT: usize = 134_217_728;
 
 fn check_kinds(named: &[Named]) -> Result<(), Fault>
     ensures { result ≡ unless (spec.kinds_fault 0 named.now) tt }
 {
     for (place, entry) in named.iter().enumerate() {
-        if entry.kind < 0x20 && 9 < entry.kind {
-            return Err(fault_at(KIND, place));
+        if !is_accepted_kind(entry.kind) {
+            return Err(Fault::at(KIND, place as u64));
         }
     }
     Ok(())
@@ -43,8 +41,8 @@ fn check_addresses(parts: &Parts) -> Result<(), Fault>
         + parts.text.bytes().len() as u128
         + parts.data_part.bytes().len() as u128
         + parts.bss as u128;
-    if end > HIGHEST as u128 {
-        return Err(fault_at(TOO_LARGE, HIGHEST));
+    if end > u128::from(GREATEST_ADDRESS) {
+        return Err(Fault::at(TOO_LARGE, GREATEST_ADDRESS));
     }
     Ok(())
 }
@@ -125,8 +123,8 @@ fn check_size(parts: &Parts, entries: usize, table: usize) -> Result<(), Fault>
         + relocs * RELOC_SIZE as u128
         + entries as u128 * ENTRY_SIZE as u128
         + table as u128;
-    if size > FILE_LIMIT as u128 {
-        return Err(fault_at(TOO_LARGE, FILE_LIMIT));
+    if size > u128::from(FILE_LIMIT) {
+        return Err(Fault::at(TOO_LARGE, FILE_LIMIT));
     }
     Ok(())
 }

@@ -13,13 +13,9 @@ use strtab::name_at;
 fn name_of(alloc: Global, strings: &[u8], strx: u32) -> Result<Text, Memory>
     ensures { IfOk result (λ name. name ≡ spec.name_of (name_in strings.now strx)) }
 {
-    let mut name = Text::new(alloc);
     match name_at(strings, strx) {
-        Ok(bytes) => {
-            name.extend(bytes)?;
-            Ok(name)
-        }
-        Err(_) => Ok(name),
+        Ok(bytes) => Text::of(alloc, bytes),
+        Err(_) => Ok(Text::new(alloc)),
     }
 }
 
@@ -47,7 +43,7 @@ fn named_entries(alloc: Global, strings: &[u8], entries: &[Entry]) -> Result<Lis
 
 impl Object {
     /// The entries of the symbol table in order, each with its name in place of the name's offset; the name of an entry without
-    /// one is empty, and no name holds a zero byte. Refused only for want of memory.
+    /// one is empty, and no name holds a zero byte. Out of memory is its only refusal.
     pub fn named(&self, alloc: Global) -> Result<List<Named>, Memory>
         ensures value { IfOk result (λ named. named ≡ spec.named_of self.now) }
         ensures whole { IfOk result (λ named. All HasWholeName named) }

@@ -1,11 +1,12 @@
-ghost use Rattle.std.specs.Prelude.{◌≡◌, ◌+◌, ◌*◌, ◌/◌, ◌≤◌, ◌<◌, ◌^◌, ℕ, length, take, drop, IfOk, IsErrOf, Ok, Err, None, nat_le, if◌then◌else◌};
+ghost use Rattle.std.specs.Prelude.{◌≡◌, ◌+◌, ◌≤◌, ◌<◌, ◌^◌, length, drop, IfOk, IsErrOf, Ok, Err, None};
 ghost use Rattle.st_base.specs.ByteOrder.{is_big};
 ghost use Rattle.st_base.specs.declared.fault.Fault.{Fault};
-ghost use Rattle.st_base.specs.Number.{number};
-ghost use Rattle.st_base.specs.Faults.{fault_at as the_fault_at, unless};
-ghost use Rattle.aout_object.specs.Objects.{Contents, ObjectSpells};
-ghost use Rattle.aout_object.specs.Reading as spec;
-ghost use Rattle.aout_object.specs.Reading.{Answers, Decodes, Gives, FileFault};
+ghost use Rattle.st_base.specs.Faults.{unless};
+ghost use Rattle.aout_object.specs.Objects.{Contents, ObjectSpells, is_accepted_kind as the_accepted_kind};
+ghost use Rattle.aout_object.specs.Checks as checks;
+ghost use Rattle.aout_object.specs.Checks.{FileFault};
+ghost use Rattle.aout_object.specs.Decoding as spec;
+ghost use Rattle.aout_object.specs.Decoding.{Answers, Decodes, Gives};
 
 use crate::object::Object;
 use crate::parts::Parts;
@@ -13,28 +14,10 @@ use aout_layout::{Header, read_header};
 use nlist_codec::{Entry, read_entries};
 use reloc::{Reloc, read_reloc};
 use st_base::{
-    Fault, INSIDE, KIND, LENGTH, Layout, List, Memory, NO_END, Order, PAST, Refused, TRAILING,
-    TRUNCATED, Text,
+    Fault, HEADER_SIZE, INSIDE, KIND, LEAST_STAB, LENGTH, List, NO_END, Order, PAST, RELOC_SIZE,
+    Refused, TRAILING, TRUNCATED, Text, WORD_SIZE, first_word,
 };
 use std::alloc::Global;
-
-/// The bytes of the header.
-pub(crate) const HEADER_SIZE: usize = 32;
-/// The bytes of a relocation.
-pub(crate) const RELOC_SIZE: usize = 8;
-
-/// The bytes of an entry.
-pub(crate) const ENTRY_SIZE: usize = 12;
-
-pub(crate) fn fault_at(number: u16, place: usize) -> Fault
-    ensures { result ≡ the_fault_at number place }
-{
-    Fault {
-        number,
-        place: place as u64,
-        within: 0,
-    }
-}
 
 // The header of a file: it has so many bytes, and they spell one.
 fn header_of(bytes: &[u8]) -> Result<Header, Fault>
@@ -42,7 +25,7 @@ fn header_of(bytes: &[u8]) -> Result<Header, Fault>
 {
     match bytes.split_first_chunk::<HEADER_SIZE>() {
         Some((front, _)) => read_header(front),
-        None => Err(fault_at(TRUNCATED, bytes.len())),
+        None => Err(Fault::at(TRUNCATED, bytes.len() as u64)),
     }
 }
 
@@ -73,17 +56,6 @@ fn places_of(header: &Header) -> Places
     }
 }
 
-// The first word of a string table, where there are four bytes.
-fn first_word(order: Order, table: &[u8]) -> Option<u32>
-    ensures { result ≡ (if nat_le 4 (length table.now) then Some (number (is_big order) (take 4 table.now)) else None) }
-{
-    let (word, _) = table.split_first_chunk::<4>()?;
-    Some(match order {
-        Order::Little => Layout::<false, 4>::get_u32(word, 0),
-        Order::Big => Layout::<true, 4>::get_u32(word, 0),
-    })
-}
-
 // The checks of the sizes of a file: all parts are there, then the string table, and nothing behind it.
 fn check_places(header: &Header, places: &Places, bytes: &[u8]) -> Result<(), Fault>
     requires { spec.ArePlaces header.now places.now }
@@ -92,23 +64,23 @@ fn check_places(header: &Header, places: &Places, bytes: &[u8]) -> Result<(), Fa
     let size = bytes.len();
     let table = places.table;
     if size < table {
-        return Err(fault_at(TRUNCATED, size));
+        return Err(Fault::at(TRUNCATED, size as u64));
     }
     if header.symbols == 0 && size == table {
         return Ok(());
     }
     let Some(word) = first_word(header.order, &bytes[table..]) else {
-        return Err(fault_at(TRUNCATED, size));
+        return Err(Fault::at(TRUNCATED, size as u64));
     };
     let word = word as usize;
-    if word < 4 {
-        return Err(fault_at(LENGTH, table));
+    if word < WORD_SIZE {
+        return Err(Fault::at(LENGTH, table as u64));
     }
     if size < table + word {
-        return Err(fault_at(TRUNCATED, size));
+        return Err(Fault::at(TRUNCATED, size as u64));
     }
     if table + word < size {
-        return Err(fault_at(TRAILING, table + word));
+        return Err(Fault::at(TRAILING, (table + word) as u64));
     }
     Ok(())
 }
@@ -116,7 +88,7 @@ fn check_places(header: &Header, places: &Places, bytes: &[u8]) -> Result<(), Fa
 // The bytes of a part.
 fn part(bytes: &[u8], at: usize, size: usize) -> &[u8]
     requires { at + size ≤ length bytes.now }
-    ensures { result.now ≡ spec.part bytes.now at size }
+    ensures { result.now ≡ checks.part bytes.now at size }
 {
     &bytes[at..at + size]
 }
@@ -129,21 +101,13 @@ fn part_from(bytes: &[u8], at: usize) -> &[u8]
     &bytes[at..]
 }
 
-fn copy(alloc: Global, bytes: &[u8]) -> Result<Text, Memory>
-    ensures { IfOk result (λ t. t ≡ bytes.now) }
-{
-    let mut text = Text::new(alloc);
-    text.extend(bytes)?;
-    Ok(text)
-}
-
 fn read_each_reloc<const BIG: bool>(
     alloc: Global,
     bytes: &[u8],
     first: usize,
 ) -> Result<List<Reloc>, Refused>
     requires { first + length bytes.now < 2 ^ 64 }
-    ensures { Answers result (spec.relocs_fault BIG first (spec.reloc_pieces bytes.now)) (spec.relocs_in BIG bytes.now) }
+    ensures { Answers result (spec.relocs_fault BIG first (checks.reloc_pieces bytes.now)) (spec.relocs_in BIG bytes.now) }
 {
     let mut relocs = List::new(alloc);
     let (pieces, _) = bytes.as_chunks::<RELOC_SIZE>();
@@ -151,7 +115,7 @@ fn read_each_reloc<const BIG: bool>(
     for piece in pieces {
         match read_reloc::<BIG>(piece) {
             Ok(reloc) => relocs.push(reloc)?,
-            Err(why) => return Err(Refused::At(fault_at(why.number, place))),
+            Err(why) => return Err(Refused::At(Fault::at(why.number, place as u64))),
         }
         place += 1;
     }
@@ -166,7 +130,7 @@ fn read_relocs(
     first: usize,
 ) -> Result<List<Reloc>, Refused>
     requires { first + length bytes.now < 2 ^ 64 }
-    ensures { Answers result (spec.relocs_fault (is_big order) first (spec.reloc_pieces bytes.now)) (spec.relocs_in (is_big order) bytes.now) }
+    ensures { Answers result (spec.relocs_fault (is_big order) first (checks.reloc_pieces bytes.now)) (spec.relocs_in (is_big order) bytes.now) }
 {
     match order {
         Order::Little => read_each_reloc::<false>(alloc, bytes, first),
@@ -194,16 +158,23 @@ fn check_name(strx: u32, strings: &[u8], end: usize, place: usize) -> Result<(),
     if at == 0 {
         return Ok(());
     }
-    if at < 4 {
-        return Err(fault_at(INSIDE, place));
+    if at < WORD_SIZE {
+        return Err(Fault::at(INSIDE, place as u64));
     }
     if strings.len() <= at {
-        return Err(fault_at(PAST, place));
+        return Err(Fault::at(PAST, place as u64));
     }
     if end <= at {
-        return Err(fault_at(NO_END, place));
+        return Err(Fault::at(NO_END, place as u64));
     }
     Ok(())
+}
+
+/// Whether entries of this kind are accepted: stabs, and those of the kinds 0 to 9.
+pub(crate) fn is_accepted_kind(kind: u8) -> bool
+    ensures { result ≡ the_accepted_kind kind }
+{
+    LEAST_STAB <= kind || kind <= 9
 }
 
 // An entry with this number: its kind is accepted, and the string table, whose last name ends before `end`, has its name.
@@ -211,8 +182,8 @@ fn check_entry(entry: &Entry, strings: &[u8], end: usize, place: usize) -> Resul
     requires { spec.EndsNames strings.now end }
     ensures { result ≡ unless (spec.entry_fault strings.now place entry.now) tt }
 {
-    if entry.kind < 0x20 && 9 < entry.kind {
-        return Err(fault_at(KIND, place));
+    if !is_accepted_kind(entry.kind) {
+        return Err(Fault::at(KIND, place as u64));
     }
     check_name(entry.strx, strings, end, place)
 }
@@ -236,12 +207,12 @@ fn read_parts(
     bytes: &[u8],
 ) -> Result<Parts, Refused>
     requires places { spec.ArePlaces header.now places.now }
-    requires whole { spec.table_at header.now ≤ length bytes.now }
+    requires whole { checks.table_at header.now ≤ length bytes.now }
     ensures { Answers result (spec.all_relocs_fault header.now bytes.now) (spec.contents_in header.now bytes.now).parts }
 {
     let order = header.order;
-    let text = copy(alloc, part(bytes, HEADER_SIZE, header.text as usize))?;
-    let data_part = copy(
+    let text = Text::of(alloc, part(bytes, HEADER_SIZE, header.text as usize))?;
+    let data_part = Text::of(
         alloc,
         part(bytes, places.data_part, header.data_part as usize),
     )?;
@@ -279,7 +250,7 @@ fn read_object(
     let entries = read_entries(alloc, header.order, part(bytes, places.entries, size))?;
     let table = part_from(bytes, places.table);
     check_entries(entries.items(), table)?;
-    let strings = copy(alloc, table)?;
+    let strings = Text::of(alloc, table)?;
     Ok(Object {
         parts,
         entries,

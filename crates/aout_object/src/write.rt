@@ -7,11 +7,10 @@ ghost use Rattle.aout_object.specs.Objects as spec;
 ghost use Rattle.aout_object.specs.Objects.{IsReloc, ObjectFits, ObjectSpells};
 
 use crate::object::Object;
-use crate::read::{ENTRY_SIZE, RELOC_SIZE};
 use aout_layout::{Header, write_header};
 use nlist_codec::{Entry, write_entry};
 use reloc::{Reloc, write_reloc};
-use st_base::{Memory, Order, Text};
+use st_base::{ENTRY_SIZE, Memory, Order, RELOC_SIZE, Text};
 use std::alloc::Global;
 
 // The header of an object's file.
@@ -83,7 +82,7 @@ fn put_behind(out: &mut Text, object: &Object) -> Result<(), Memory>
     }
 }
 
-/// Encodes an object: the one file that spells it, so that decoding the file gives the object. Refused only for want of memory.
+/// Encodes an object: the one file that spells it, so that decoding the file gives the object. Out of memory is its only refusal.
 pub fn encode(alloc: Global, object: &Object) -> Result<Text, Memory>
     ensures { IfOk result (λ file. ObjectSpells object.now file) }
 {

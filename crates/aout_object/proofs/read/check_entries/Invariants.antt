@@ -1,5 +1,5 @@
 use Rattle.std.proofs.Common.{◌≡◌, drop}
-use Rattle.aout_object.specs.Reading.{entries_fault}
+use Rattle.aout_object.specs.Decoding.{entries_fault}
 use Rattle.aout_object.proofs.read.check_entries.Given as goal
 
 -- what is left has the fault of the whole

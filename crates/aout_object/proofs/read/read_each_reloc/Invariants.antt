@@ -1,7 +1,7 @@
 use Rattle.std.proofs.Common.{◌≡◌, ◌+◌, take, drop}
 use Rattle.std.specs.Prelude.{map}
 use Rattle.reloc.specs.Relocs.{reloc_of}
-use Rattle.aout_object.specs.Reading.{relocs_fault}
+use Rattle.aout_object.specs.Decoding.{relocs_fault}
 use Rattle.aout_object.specs.contracts.read.read_each_reloc.{BIG-type}
 use denote.Param.{number}
 use Rattle.aout_object.proofs.read.read_each_reloc.Given as goal

@@ -6,7 +6,8 @@ use Rattle.st_base.specs.Number.{IsBytes}
 use Rattle.st_base.proofs.BytesLemmas.{IsBytes-items}
 use Rattle.nlist_codec.specs.Entries.{entries_in}
 use Rattle.aout_object.specs.Objects.{ObjectFits}
-use Rattle.aout_object.specs.Reading.{contents_in, entries_fault, entries_part, part, records_fault, strings_part}
+use Rattle.aout_object.specs.Checks.{entries_part, part, strings_part}
+use Rattle.aout_object.specs.Decoding.{contents_in, entries_fault, records_fault}
 use Rattle.aout_object.proofs.AnswerLemmas.{read-whole, unless-ok}
 use Rattle.aout_object.proofs.FileLemmas.{contents-fit}
 use Rattle.aout_object.proofs.read.read_object.Goals as goal

@@ -2,7 +2,7 @@
 use Rattle.std.proofs.Common.{List, subst}
 use Rattle.nlist_codec.specs.declared.named.Named.{Named}
 use Rattle.aout_object.specs.Making.{made, size_fault}
-use Rattle.aout_object.specs.Reading.{Answers}
+use Rattle.aout_object.specs.Decoding.{Answers}
 use Rattle.aout_object.proofs.MakeLemmas.{named-answered}
 use Rattle.aout_object.proofs.object.Object.make.Goals as goal
 

@@ -1,83 +1,55 @@
--- What is wrong with a file that spells no object: the first of the checks that it fails, with the fault's number and place. The
--- order of the checks is this project's own. And what lies at the places of a file that its header gives.
-use Rattle.std.specs.Prelude.{◌≡◌, ◌≢◌, ℕ, ◌+◌, ◌-◌, ◌/◌, ◌<◌, ◌≤◌, ◌^◌, ◌==◌, ◌&&◌, nat_lt, nat_le, if◌then◌else◌, Bool, List, [], ◌∷◌, length, get_or, map, take, drop, position, Option, Some, None, Result, Ok, Err}
-use Rattle.std.specs.Simd.{first_chunks}
+-- What the code of `decode` and of `make` keeps on its way, and in which words their calls answer. The checks of a file are those of
+-- specs/Checks.antt; here each step has the first fault of its own checks, and proofs/StepLemmas.antt shows that these are the checks
+-- of a file in their order.
+use Rattle.std.specs.Prelude.{◌≡◌, ◌≢◌, ℕ, ◌+◌, ◌-◌, ◌/◌, ◌<◌, ◌≤◌, ◌^◌, ◌==◌, nat_lt, nat_le, if◌then◌else◌, Bool, List, [], ◌∷◌, length, get_or, map, take, drop, position, Option, Some, None, Result, Ok, Err}
 use Rattle.st_base.specs.ByteOrder.{is_big}
-use Rattle.st_base.specs.Number.{number_at}
 use Rattle.st_base.specs.Faults.{fault_at}
 use Rattle.st_base.specs.declared.fault.Fault.{Fault}
 use Rattle.st_base.specs.declared.fault.Refused.{Refused}
 use Rattle.st_base.specs.declared.fault.Refused.TheVariants as refused
 use Rattle.st_base.specs.declared.fault.TheConstants.{TRUNCATED, TRAILING, LENGTH, KIND, INSIDE, PAST, NO_END}
+use Rattle.st_base.specs.declared.sizes.TheConstants.{HEADER_SIZE, RELOC_SIZE}
 use Rattle.aout_layout.specs.declared.header.Header.{Header}
-use Rattle.aout_layout.specs.Headers.{header_size, read}
+use Rattle.aout_layout.specs.Headers.{read}
 use Rattle.nlist_codec.specs.declared.entry.Entry.{Entry}
 use Rattle.nlist_codec.specs.Entries.{entries_in}
 use Rattle.reloc.specs.declared.reloc.Reloc.{Reloc}
-use Rattle.reloc.specs.Relocs.{reloc_size, reloc_of}
+use Rattle.reloc.specs.Relocs.{reloc_of}
 use Rattle.reloc.specs.Relocs.{read as read_reloc}
 use Rattle.strtab.specs.StringTable.{is_zero}
 use Rattle.aout_object.specs.declared.read.Places.{Places}
 use Rattle.aout_object.specs.Objects.{Contents, ObjectSpells, is_accepted_kind}
+use Rattle.aout_object.specs.Checks.{data_at, text_relocs_at, data_relocs_at, entries_at, table_at, part, reloc_pieces, text_relocs_part, data_relocs_part, entries_part, strings_part, is_absent, word_in, FileFault}
 
--- the fault that comes first: this one, else the other
-abbrev pub fault_or : Option Fault → Option Fault → Option Fault
-fault_or None later = later
-fault_or (Some fault) later = Some fault
+-- ---- answers
 
--- a fault unless the test holds
-abbrev pub fault_unless : Bool → ℕ → ℕ → Option Fault
-fault_unless test number place = if test then None else Some (fault_at number place)
+-- what a call answers that makes checks with this first fault, and has this value where there is none; out of memory is free
+abbrev pub Answers : {A : Type 0} → Result A Refused → Option Fault → A → Type 0
+Answers (Ok found) fault value = (fault ≡ None) × (found ≡ value)
+Answers (Err refused.Memory) fault value = Unit {0}
+Answers (Err (refused.At why)) fault value = fault ≡ Some why
 
--- ---- places in a file with this header, and what lies there
+-- the answer that is this fault
+abbrev pub refused_at : Fault → Refused
+refused_at fault = refused.At fault
 
--- where data begins, behind the header and text
-abbrev pub data_at : Header → ℕ
-data_at h = header_size + h.text
+-- what decoding a file answers: an object that the file spells, or its fault; out of memory is free
+abbrev pub Decodes : Result Contents Refused → List ℕ → Type 0
+Decodes (Ok o) bytes = ObjectSpells o bytes
+Decodes (Err refused.Memory) bytes = Unit {0}
+Decodes (Err (refused.At fault)) bytes = FileFault bytes fault
 
--- where the text relocations begin
-abbrev pub text_relocs_at : Header → ℕ
-text_relocs_at h = data_at h + h.data_part
+-- this value is answered, unless out of memory
+abbrev pub Gives : {A : Type 0} → Result A Refused → Result A Fault → Type 0
+Gives (Ok found) wanted = wanted ≡ Ok found
+Gives (Err refused.Memory) wanted = Unit {0}
+Gives (Err (refused.At why)) wanted = wanted ≡ Err why
 
--- where the data relocations begin
-abbrev pub data_relocs_at : Header → ℕ
-data_relocs_at h = text_relocs_at h + h.text_relocs
-
--- where the entries begin
-abbrev pub entries_at : Header → ℕ
-entries_at h = data_relocs_at h + h.data_relocs
-
--- where the string table begins, or the file ends where it has none
-abbrev pub table_at : Header → ℕ
-table_at h = entries_at h + h.symbols
-
--- the bytes of a part
-abbrev pub part : List ℕ → ℕ → ℕ → List ℕ
-part bytes at size = take size (drop at bytes)
-
--- bytes cut into those of one relocation each
-abbrev pub reloc_pieces : List ℕ → List (List ℕ)
-reloc_pieces bytes = first_chunks reloc_size (length bytes / reloc_size) bytes
+-- ---- what is read
 
 -- the relocations of bytes that hold one in each eight
 abbrev pub relocs_in : Bool → List ℕ → List Reloc
 relocs_in big bytes = map (reloc_of big) (reloc_pieces bytes)
-
--- the bytes of the text relocations
-abbrev pub text_relocs_part : Header → List ℕ → List ℕ
-text_relocs_part h bytes = part bytes (text_relocs_at h) h.text_relocs
-
--- the bytes of the data relocations
-abbrev pub data_relocs_part : Header → List ℕ → List ℕ
-data_relocs_part h bytes = part bytes (data_relocs_at h) h.data_relocs
-
--- the bytes of the entries
-abbrev pub entries_part : Header → List ℕ → List ℕ
-entries_part h bytes = part bytes (entries_at h) h.symbols
-
--- the bytes of the string table, with all that stands behind it
-abbrev pub strings_part : Header → List ℕ → List ℕ
-strings_part h bytes = drop (table_at h) bytes
 
 -- what the parts of a file with this header hold
 abbrev pub contents_in : Header → List ℕ → Contents
@@ -87,7 +59,7 @@ contents_in h bytes = record {
     machine = h.machine;
     bss = h.bss;
     entry = h.entry;
-    text = part bytes header_size h.text;
+    text = part bytes HEADER_SIZE h.text;
     data_part = part bytes (data_at h) h.data_part;
     text_relocs = relocs_in (is_big h.order) (text_relocs_part h bytes);
     data_relocs = relocs_in (is_big h.order) (data_relocs_part h bytes);
@@ -105,21 +77,22 @@ pub record ArePlaces (h : Header) (places : Places) : Type 0 where
   pub table : places.table ≡ table_at h
   pub bound : places.table < 2 ^ 35
 
--- ---- the checks behind the header
+-- ---- the first fault of each step
 
--- 3. all parts before the string table are there
+-- the fault that comes first: this one, else the other
+abbrev pub fault_or : Option Fault → Option Fault → Option Fault
+fault_or None later = later
+fault_or (Some fault) later = Some fault
+
+-- a fault unless the test holds
+abbrev pub fault_unless : Bool → ℕ → ℕ → Option Fault
+fault_unless test number place = if test then None else Some (fault_at number place)
+
+-- all parts before the string table are there
 abbrev pub parts_fault : Header → List ℕ → Option Fault
 parts_fault h bytes = fault_unless (nat_le (table_at h) (length bytes)) TRUNCATED (length bytes)
 
--- there are no entries, and the file ends before the string table
-abbrev pub is_absent : Header → List ℕ → Bool
-is_absent h bytes = (h.symbols == 0) && (length bytes == table_at h)
-
--- the first word of the string table
-abbrev pub word_in : Header → List ℕ → ℕ
-word_in h bytes = number_at (is_big h.order) bytes (table_at h) 4
-
--- 4. the string table is absent where it may be; else its word is there, is at least 4, and the table is there whole
+-- the string table is absent where it may be; else its word is there, is at least 4, and the table is there whole
 abbrev pub table_fault : Header → List ℕ → Option Fault
 table_fault h bytes =
     if is_absent h bytes then None
@@ -127,7 +100,7 @@ table_fault h bytes =
     (fault_or (fault_unless (nat_le 4 (word_in h bytes)) LENGTH (table_at h))
     (fault_unless (nat_le (table_at h + word_in h bytes) (length bytes)) TRUNCATED (length bytes)))
 
--- 5. nothing follows the string table
+-- nothing follows the string table
 abbrev pub trailing_fault : Header → List ℕ → Option Fault
 trailing_fault h bytes =
     if is_absent h bytes then None
@@ -142,7 +115,7 @@ abbrev pub fault_of : {A : Type 0} → ℕ → Result A Fault → Option Fault
 fault_of place (Ok value) = None
 fault_of place (Err fault) = Some (fault_at fault.number place)
 
--- 6. each relocation, `place` of them standing before: the fault of the first that is refused
+-- each relocation, `place` of them standing before: the fault of the first that is refused
 abbrev pub relocs_fault : Bool → ℕ → List (List ℕ) → Option Fault
 relocs_fault big place [] = None
 relocs_fault big place (piece ∷ pieces) = fault_or (fault_of place (read_reloc big piece)) (relocs_fault big (place + 1) pieces)
@@ -170,7 +143,7 @@ pub record EndsNames (strings : List ℕ) (end : ℕ) : Type 0 where
 abbrev pub entry_fault : List ℕ → ℕ → Entry → Option Fault
 entry_fault strings place e = fault_or (fault_unless (is_accepted_kind e.kind) KIND place) (name_fault strings place e.strx)
 
--- 7. each entry, `place` of them standing before: the fault of the first that has one
+-- each entry, `place` of them standing before: the fault of the first that has one
 abbrev pub entries_fault : List ℕ → ℕ → List Entry → Option Fault
 entries_fault strings place [] = None
 entries_fault strings place (e ∷ entries) = fault_or (entry_fault strings place e) (entries_fault strings (place + 1) entries)
@@ -179,18 +152,18 @@ entries_fault strings place (e ∷ entries) = fault_or (entry_fault strings plac
 abbrev pub all_relocs_fault : Header → List ℕ → Option Fault
 all_relocs_fault h bytes =
     fault_or (relocs_fault (is_big h.order) 0 (reloc_pieces (text_relocs_part h bytes)))
-    (relocs_fault (is_big h.order) (h.text_relocs / reloc_size) (reloc_pieces (data_relocs_part h bytes)))
+    (relocs_fault (is_big h.order) (h.text_relocs / RELOC_SIZE) (reloc_pieces (data_relocs_part h bytes)))
 
 -- the two checks of the records of a file: its relocations, and then its entries
 abbrev pub records_fault : Header → List ℕ → Option Fault
 records_fault h bytes =
     fault_or (all_relocs_fault h bytes) (entries_fault (strings_part h bytes) 0 (entries_in (is_big h.order) (entries_part h bytes)))
 
--- ---- all checks
+-- ---- the fault of a file
 
--- 1. and 2. the file has a header, and it is one that can be read
+-- the file has a header, and it is one that can be read
 abbrev pub header_in : List ℕ → Result Header Fault
-header_in bytes = if nat_lt (length bytes) header_size then Err (fault_at TRUNCATED (length bytes)) else read (take header_size bytes)
+header_in bytes = if nat_le HEADER_SIZE (length bytes) then read (take HEADER_SIZE bytes) else Err (fault_at TRUNCATED (length bytes))
 
 -- the fault of a file whose header was read so: that of the header, else the first behind it
 abbrev pub fault_behind : Result Header Fault → List ℕ → Option Fault
@@ -200,31 +173,3 @@ fault_behind (Ok h) bytes = fault_or (places_fault h bytes) (records_fault h byt
 -- the fault of a file: that of the first check which it fails
 abbrev pub file_fault : List ℕ → Option Fault
 file_fault bytes = fault_behind (header_in bytes) bytes
-
--- this is the fault of this file
-pub record FileFault (bytes : List ℕ) (fault : Fault) : Type 0 where
-  pub first : file_fault bytes ≡ Some fault
-
--- ---- answers
-
--- what a call answers that makes checks with this first fault, and has this value where there is none; out of memory is free
-abbrev pub Answers : {A : Type 0} → Result A Refused → Option Fault → A → Type 0
-Answers (Ok found) fault value = (fault ≡ None) × (found ≡ value)
-Answers (Err refused.Memory) fault value = Unit {0}
-Answers (Err (refused.At why)) fault value = fault ≡ Some why
-
--- the answer that is this fault
-abbrev pub refused_at : Fault → Refused
-refused_at fault = refused.At fault
-
--- what decoding a file answers: an object that the file spells, or its fault; out of memory is free
-abbrev pub Decodes : Result Contents Refused → List ℕ → Type 0
-Decodes (Ok o) bytes = ObjectSpells o bytes
-Decodes (Err refused.Memory) bytes = Unit {0}
-Decodes (Err (refused.At fault)) bytes = FileFault bytes fault
-
--- this value is answered, unless out of memory
-abbrev pub Gives : {A : Type 0} → Result A Refused → Result A Fault → Type 0
-Gives (Ok found) wanted = wanted ≡ Ok found
-Gives (Err refused.Memory) wanted = Unit {0}
-Gives (Err (refused.At why)) wanted = wanted ≡ Err why
