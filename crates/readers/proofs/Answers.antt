@@ -71,7 +71,7 @@ module _ (n : ℕ) {A : Type 0} (r : Reader A) (F : Form A) (follows : ℕ → B
   by_found text (Ok a) h = firsts.found n r F follows laws text a h
   by_found text (Err e) h = tt
 
-  -- what is spelled so is answered, unless memory was wanting
+  -- what is spelled so is answered, unless out of memory
   pub by_only : (text : List ℕ) (v : Result A Unread) → Answers text v → (a : A) → Spells n F a text → (v ≡ Ok a) ⊎ (v ≡ Err unread.Memory)
   by_only text (Ok b) h a s = inl (ap Ok (same_ok (whole text) b a h (firsts.only n r F follows laws text a s.0 s.1 s.2)))
   by_only text (Err unread.Memory) h a s = inr refl
@@ -83,7 +83,7 @@ module _ (n : ℕ) {A : Type 0} (r : Reader A) (F : Form A) (follows : ℕ → B
       let b : Answers text (Err (unread.At f)) = subst (Answers text) e h in
       subst (IsFirstFault n F text) b.2 (firsts.first n r F follows laws text b.0 b.1)
 
-  -- the first fault is answered, unless memory was wanting
+  -- the first fault is answered, unless out of memory
   pub by_first : (text : List ℕ) (v : Result A Unread) → Answers text v → (f : TextFault) → IsFirstFault n F text f → (v ≡ Err (unread.At f)) ⊎ (v ≡ Err unread.Memory)
   by_first text (Ok a) h f is = let k = firsts.answered n r F follows laws text f is in absurd (clash (whole text) a k.0 h k.1)
   by_first text (Err unread.Memory) h f is = inr refl
