@@ -6,7 +6,7 @@ use Rattle.st_base.specs.Faults.{fault_at, first_fault}
 use Rattle.st_base.specs.declared.order.Order.TheVariants.{Little, Big}
 use Rattle.aout_object.specs.Objects.{Contents, file_of, named_of}
 use Rattle.aout_object.specs.Checks.{file_checks}
-use Rattle.aout_object.specs.Making.{made, make_fault}
+use Rattle.aout_object.specs.Making.{made, make_checks}
 
 -- ---- a bare header
 
@@ -65,6 +65,18 @@ small-short = refl
 small-long : first_fault (file_checks (little_header ++ (little_behind ++ 0 ∷ []))) ≡ Some (fault_at 6 54)
 small-long = refl
 
+-- a name that begins in the length word, behind a kind that is accepted
+small-inside : first_fault (file_checks (little_header ++ 1 ∷ 2 ∷ 3 ∷ 0 ∷ 0 ∷ 0 ∷ 0x64 ∷ 0 ∷ 0 ∷ 0 ∷ 0 ∷ 16 ∷ 0 ∷ 0 ∷ 8 ∷ 0 ∷ 0 ∷ 0 ∷ 97 ∷ 46 ∷ 99 ∷ 0 ∷ [])) ≡ Some (fault_at 11 0)
+small-inside = refl
+
+-- the same name behind a kind that is not
+small-kind : first_fault (file_checks (little_header ++ 1 ∷ 2 ∷ 3 ∷ 0 ∷ 0 ∷ 0 ∷ 10 ∷ 0 ∷ 0 ∷ 0 ∷ 0 ∷ 16 ∷ 0 ∷ 0 ∷ 8 ∷ 0 ∷ 0 ∷ 0 ∷ 97 ∷ 46 ∷ 99 ∷ 0 ∷ [])) ≡ Some (fault_at 30 0)
+small-kind = refl
+
+-- a name that no zero byte ends
+small-no_end : first_fault (file_checks (little_header ++ 1 ∷ 2 ∷ 4 ∷ 0 ∷ 0 ∷ 0 ∷ 0x64 ∷ 0 ∷ 0 ∷ 0 ∷ 0 ∷ 16 ∷ 0 ∷ 0 ∷ 8 ∷ 0 ∷ 0 ∷ 0 ∷ 97 ∷ 46 ∷ 99 ∷ 99 ∷ [])) ≡ Some (fault_at 13 0)
+small-no_end = refl
+
 -- its entry is named
 small-named : named_of small ≡ record { kind = 0x64; other = 0; desc = 0; value = 4096; name = codes "a.c" } ∷ []
 small-named = refl
@@ -74,11 +86,11 @@ small-made : made small.parts (named_of small) ≡ small
 small-made = refl
 
 -- and nothing is wrong with them
-small-make_fault : make_fault small.parts (named_of small) ≡ None
-small-make_fault = refl
+small-make : first_fault (make_checks small.parts (named_of small)) ≡ None
+small-make = refl
 
 -- a kind that is no stab and above 9
-kind_10 : make_fault small.parts (record { kind = 10; other = 0; desc = 0; value = 0; name = [] } ∷ []) ≡ Some (fault_at 30 0)
+kind_10 : first_fault (make_checks small.parts (record { kind = 10; other = 0; desc = 0; value = 0; name = [] } ∷ [])) ≡ Some (fault_at 30 0)
 kind_10 = refl
 
 -- in big order the same numbers are spelled from the other end

@@ -2,7 +2,7 @@
 -- made of parts and named entries can be written and has these named entries.
 use Rattle.std.proofs.Common.{◌≡◌, ◌≢◌, ℕ, ◌+◌, ◌*◌, ◌^◌, ◌<◌, ◌≤◌, Bool, true, false, List, [], ◌∷◌, ◌++◌, length, take, drop, get_or, Contains, refl, sym, ap, subst, ◌∙◌, arith, inl, inr, length-append, take-append-drop}
 use Rattle.std.specs.Option.{is_some}
-use Rattle.std.specs.Prelude.{All, IfOk, nat_le, Option, Some, None, fold, Result, Ok, Err}
+use Rattle.std.specs.Prelude.{All, IfOk, if◌then◌else◌, nat_le, Option, Some, None, fold, Result, Ok, Err}
 use Rattle.std.specs.List.{AllByRecursion, list_any}
 use Rattle.std.specs.Str.{bytes_eq}
 use Rattle.std.proofs.lemmas.Bool.{cases_Bool, leb-true, lt-leb}
@@ -10,7 +10,9 @@ use Rattle.std.proofs.lemmas.List.{take_more, map-append, length-map, get_or-map
 use Rattle.std.proofs.lemmas.List.Elements.{All-map, Contains-push, Contains-get_or, recursion_from_All}
 use Rattle.std.proofs.lemmas.List.Sums.{fold-append}
 use Rattle.st_base.specs.ByteOrder.{is_big}
+use Rattle.st_base.specs.Faults.{Check, fault_at, first_fault}
 use Rattle.st_base.specs.declared.fault.Fault.{Fault}
+use Rattle.st_base.proofs.CheckLemmas.{AllHold, AllHold-first_fault}
 use Rattle.st_base.specs.declared.fault.Refused.{Refused}
 use Rattle.st_base.specs.declared.fault.Refused.TheVariants as refused
 use Rattle.st_base.specs.declared.sizes.TheConstants.{HEADER_SIZE, ENTRY_SIZE, RELOC_SIZE, FILE_LIMIT, GREATEST_ADDRESS}
@@ -29,11 +31,11 @@ use Rattle.strtab.proofs.UsesLemmas.{name_in-first_uses, offset_of-later}
 use Rattle.strtab.proofs.WordLemmas.{HasOwnLength-table_of, length-table_of}
 use Rattle.aout_object.specs.declared.parts.Parts.{Parts}
 use Rattle.aout_object.specs.Objects.{Contents, header_for, relocs_bytes, entries_bytes, behind_header, file_of, IsReloc, IsAccepted, ObjectFits, name_of, named_entry, all_named, named_of}
-use Rattle.aout_object.specs.Decoding.{Answers, fault_unless}
-use Rattle.aout_object.specs.Making.{names_of, HasWholeName, entry_at, entry_for, entries_for, made, kinds_fault, addresses_fault, size_fault, length_fault}
+use Rattle.aout_object.specs.Decoding.{Answers, fault_or}
+use Rattle.aout_object.specs.Making.{names_of, HasWholeName, entry_at, entry_for, entries_for, made, kinds_checks, addresses_check, size_check, make_checks, size_with}
 use Rattle.st_base.specs.declared.fault.TheConstants.{TOO_LARGE}
-use Rattle.aout_object.proofs.RecordLemmas.{fault_or-none, length-flat_map_each, length-reloc_bytes, length-entry_bytes}
-use Rattle.aout_object.proofs.FaultLemmas.{fault_unless-none}
+use Rattle.aout_object.proofs.RecordLemmas.{length-flat_map_each, length-reloc_bytes, length-entry_bytes}
+use Rattle.aout_object.proofs.StepLemmas.{first_fault-append}
 
 -- ---- names that are used one by one
 
@@ -148,17 +150,16 @@ names_there named =
     (Contains-get_or (names_of named) k d.name (let size = length-map named (λ (n : Named). n.name) in omega (arith, within, size))))
 
 -- entries of accepted kinds whose names are in the table are accepted
-accepted-made : (big : Bool) (uses : List (List ℕ)) (place : ℕ) (named : List Named) → All HasNoZero uses → AllByRecursion (λ n. Contains uses n.name) named → kinds_fault place named ≡ None
+accepted-made : (big : Bool) (uses : List (List ℕ)) (place : ℕ) (named : List Named) → All HasNoZero uses → AllByRecursion (λ n. Contains uses n.name) named → AllHold (kinds_checks place named)
     → AllByRecursion (IsAccepted (table_of big (first_uses uses))) (entries_for (first_uses uses) named)
 accepted-made big uses place [] whole there kinds = tt
-accepted-made big uses place (n ∷ named) whole there kinds =
-    let parts = fault_or-none _ _ kinds in (
-      record {
-        kind = fault_unless-none _ _ _ parts.0;
-        name = ap (λ (x : Option (List ℕ)). is_some x) (name_in-first_uses big uses whole n.name there.0);
-      },
-      accepted-made big uses (place + 1) named whole there.1 parts.1,
-    )
+accepted-made big uses place (n ∷ named) whole there kinds = (
+  record {
+    kind = kinds.0;
+    name = ap (λ (x : Option (List ℕ)). is_some x) (name_in-first_uses big uses whole n.name there.0);
+  },
+  accepted-made big uses (place + 1) named whole there.1 kinds.1,
+)
 
 -- their names are those that were handed in
 named-made : (big : Bool) (uses : List (List ℕ)) (named : List Named) → All HasNoZero uses → AllByRecursion (λ n. Contains uses n.name) named
@@ -181,11 +182,11 @@ relocs-fit relocs fits words = recursion_from_All IsReloc relocs (λ k d within.
 -- the object can be written, where nothing is wrong with it
 pub made-fits : (parts : Parts) (named : List Named) → All HasWholeName named → parts.machine ≢ TWO_ORDERS → parts.machine < 2 ^ 16
     → AllByRecursion IsReloc parts.text_relocs → AllByRecursion IsReloc parts.data_relocs → All EntryFits (made parts named).entries
-    → kinds_fault 0 named ≡ None → addresses_fault parts ≡ None → size_fault (made parts named) ≡ None → ObjectFits (made parts named)
+    → first_fault (kinds_checks 0 named) ≡ None → first_fault (addresses_check parts ∷ []) ≡ None → first_fault (size_check (length (file_of (made parts named))) ∷ []) ≡ None → ObjectFits (made parts named)
 made-fits parts named whole told machine text_relocs data_relocs entries kinds addresses size =
     let o : Contents = made parts named in
-    let highest = leb-true (parts.entry + length parts.text + length parts.data_part + parts.bss) GREATEST_ADDRESS (fault_unless-none _ _ _ addresses) in
-    let limit = leb-true (length (file_of o)) FILE_LIMIT (fault_unless-none _ _ _ size) in
+    let highest = leb-true (parts.entry + length parts.text + length parts.data_part + parts.bss) GREATEST_ADDRESS (AllHold-first_fault (addresses_check parts ∷ []) addresses).0 in
+    let limit = leb-true (length (file_of o)) FILE_LIMIT (AllHold-first_fault (size_check (length (file_of o)) ∷ []) size).0 in
     let sum = length-file_of o in
     let table : length o.strings ≡ size_of (first_uses (names_of named)) = length-table_of (is_big parts.order) (first_uses (names_of named)) in
     record {
@@ -209,36 +210,35 @@ made-fits parts named whole told machine text_relocs data_relocs entries kinds a
       text_relocs = text_relocs;
       data_relocs = data_relocs;
       entries = recursion_from_All EntryFits o.entries entries;
-      accepted = accepted-made (is_big parts.order) (names_of named) 0 named (All-map HasNoZero (λ n. n.name) named whole) (names_there named) kinds;
+      accepted = accepted-made (is_big parts.order) (names_of named) 0 named (All-map HasNoZero (λ n. n.name) named whole) (names_there named) (AllHold-first_fault (kinds_checks 0 named) kinds);
       table = inr (HasOwnLength-table_of (is_big parts.order) (first_uses (names_of named)) (omega (arith, limit, sum, table)));
     }
 
 -- ---- the size of the file
 
 -- the length of the file of the object that is made, by the lengths that are counted
-size-made : (parts : Parts) (named : List Named) (count table : ℕ) → count ≡ length named → table ≡ length (made parts named).strings
-    → size_fault (made parts named) ≡ length_fault parts count table
+pub size-made : (parts : Parts) (named : List Named) (count table : ℕ) → count ≡ length named → table ≡ length (made parts named).strings
+    → length (file_of (made parts named)) ≡ size_with parts count table
 size-made parts named count table is_count is_table =
     let sum = length-file_of (made parts named) in
     let entries : length (made parts named).entries ≡ length named = length-map named (entry_for (first_uses (names_of named))) in
-    let same : length (file_of (made parts named)) ≡ HEADER_SIZE + length parts.text + length parts.data_part + (length parts.text_relocs + length parts.data_relocs) * RELOC_SIZE + count * ENTRY_SIZE + table =
-    omega (arith, sum, entries, is_count, is_table) in
-    ap (λ (n : ℕ). fault_unless (nat_le n FILE_LIMIT) TOO_LARGE FILE_LIMIT) same
+    omega (arith, sum, entries, is_count, is_table)
 
--- the fault of the lengths that are counted is that of the object
+-- the fault of the size that is counted is that of the file
 pub size-fault : (parts : Parts) (named : List Named) (count table : ℕ) (found : Option Fault) → count ≡ length named → table ≡ length (made parts named).strings
-    → length_fault parts count table ≡ found → size_fault (made parts named) ≡ found
-size-fault parts named count table found is_count is_table is = size-made parts named count table is_count is_table ∙ is
+    → first_fault (size_check (size_with parts count table) ∷ []) ≡ found → first_fault (size_check (length (file_of (made parts named))) ∷ []) ≡ found
+size-fault parts named count table found is_count is_table is =
+    ap (λ (size : ℕ). first_fault (size_check size ∷ [])) (size-made parts named count table is_count is_table) ∙ is
 
 -- where the string table alone is too large, the file is
 pub table-refused : (parts : Parts) (named : List Named) (why : Refused) (value : Contents) → RefusesSize (size_of (first_uses (names_of named))) why
-    → Answers (Err why) (size_fault (made parts named)) value
+    → Answers (Err why) (first_fault (size_check (length (file_of (made parts named))) ∷ [])) value
 table-refused parts named refused.Memory value refuses = tt
 table-refused parts named (refused.At why) value refuses =
     let sum = length-file_of (made parts named) in
     let table : length (made parts named).strings ≡ size_of (first_uses (names_of named)) = length-table_of (is_big parts.order) (first_uses (names_of named)) in
     let over : nat_le (length (file_of (made parts named))) FILE_LIMIT ≡ false = lt-leb (length (file_of (made parts named))) FILE_LIMIT (omega (arith, sum, table, refuses.0)) in
-    ap (λ (test : Bool). fault_unless test TOO_LARGE FILE_LIMIT) over ∙ ap (λ (f : Fault). Some f) (sym refuses.1)
+    ap (λ (test : Bool). if test then None else Some (fault_at TOO_LARGE FILE_LIMIT)) over ∙ ap (λ (f : Fault). Some f) (sym refuses.1)
 
 -- parts, entries and a table that are those of the object that is made make it
 pub made-is : (parts : Parts) (named : List Named) (entries : List Entry) (strings : List ℕ) → entries ≡ (made parts named).entries → strings ≡ (made parts named).strings
@@ -252,3 +252,35 @@ pub named-answered : (parts : Parts) (named : List Named) (answer : Result Conte
     → Answers answer fault (made parts named) → IfOk answer (λ o. named_of o ≡ named)
 named-answered parts named (Ok o) fault whole told = ap named_of told.1 ∙ named_of-made parts named whole
 named-answered parts named (Err why) fault whole told = tt
+
+-- ---- the checks in their order
+
+module _ (parts : Parts) (named : List Named) where
+  -- those behind the kinds
+  abbrev size_checks : List Check
+  size_checks = size_check (length (file_of (made parts named))) ∷ []
+
+  -- the fault is that of the kinds, else of the addresses, else of the size
+  make_checks-fault : first_fault (make_checks parts named) ≡ fault_or (first_fault (kinds_checks 0 named)) (fault_or (first_fault (addresses_check parts ∷ [])) (first_fault size_checks))
+  make_checks-fault =
+      first_fault-append (kinds_checks 0 named) (addresses_check parts ∷ size_checks)
+      ∙ ap (fault_or (first_fault (kinds_checks 0 named))) (first_fault-append (addresses_check parts ∷ []) size_checks)
+
+  -- a kind that is not accepted is told first
+  pub make-kinds : (fault : Fault) → first_fault (kinds_checks 0 named) ≡ Some fault → first_fault (make_checks parts named) ≡ Some fault
+  make-kinds fault found =
+      make_checks-fault ∙ ap (λ (f : Option Fault). fault_or f (fault_or (first_fault (addresses_check parts ∷ [])) (first_fault size_checks))) found
+
+  -- then addresses that do not fit
+  pub make-addresses : (fault : Fault) → first_fault (kinds_checks 0 named) ≡ None → first_fault (addresses_check parts ∷ []) ≡ Some fault
+      → first_fault (make_checks parts named) ≡ Some fault
+  make-addresses fault kinds found =
+      make_checks-fault ∙ ap (λ (f : Option Fault). fault_or f (fault_or (first_fault (addresses_check parts ∷ [])) (first_fault size_checks))) kinds
+      ∙ ap (λ (f : Option Fault). fault_or f (first_fault size_checks)) found
+
+  -- and then the size
+  pub make-size : first_fault (kinds_checks 0 named) ≡ None → first_fault (addresses_check parts ∷ []) ≡ None
+      → first_fault (make_checks parts named) ≡ first_fault size_checks
+  make-size kinds addresses =
+      make_checks-fault ∙ ap (λ (f : Option Fault). fault_or f (fault_or (first_fault (addresses_check parts ∷ [])) (first_fault size_checks))) kinds
+      ∙ ap (λ (f : Option Fault). fault_or f (first_fault size_checks)) addresses

@@ -1,8 +1,8 @@
 -- An object made of parts and of entries with their names, and what is wrong with parts and entries that make none. That each
 -- distinct name stands once in the string table, in order of first use, and the limits are this project's own.
-use Rattle.std.specs.Prelude.{ℕ, ◌+◌, ◌*◌, nat_le, List, [], ◌∷◌, length, map, Option, None}
+use Rattle.std.specs.Prelude.{ℕ, ◌+◌, ◌*◌, nat_le, List, [], ◌∷◌, ◌++◌, length, map}
 use Rattle.st_base.specs.ByteOrder.{is_big}
-use Rattle.st_base.specs.declared.fault.Fault.{Fault}
+use Rattle.st_base.specs.Faults.{Check, check}
 use Rattle.st_base.specs.declared.fault.TheConstants.{KIND}
 use Rattle.st_base.specs.declared.sizes.TheConstants.{HEADER_SIZE, ENTRY_SIZE, RELOC_SIZE, FILE_LIMIT, GREATEST_ADDRESS}
 use Rattle.nlist_codec.specs.declared.entry.Entry.{Entry}
@@ -12,7 +12,6 @@ use Rattle.strtab.specs.Names.{offset_of, first_uses, table_of}
 use Rattle.st_base.specs.declared.fault.TheConstants.{TOO_LARGE}
 use Rattle.aout_object.specs.declared.parts.Parts.{Parts}
 use Rattle.aout_object.specs.Objects.{Contents, file_of, is_accepted_kind}
-use Rattle.aout_object.specs.Decoding.{fault_or, fault_unless}
 
 -- the names of entries, in order
 abbrev pub names_of : List Named → List (List ℕ)
@@ -42,25 +41,28 @@ made parts named = record {
   strings = table_of (is_big parts.order) (first_uses (names_of named));
 }
 
--- the first entry of a kind that is not accepted, `place` of them standing before
-abbrev pub kinds_fault : ℕ → List Named → Option Fault
-kinds_fault place [] = None
-kinds_fault place (n ∷ named) = fault_or (fault_unless (is_accepted_kind n.kind) KIND place) (kinds_fault (place + 1) named)
+-- ---- the checks of parts and entries that are made into an object
 
--- the end of bss passes the highest address
-abbrev pub addresses_fault : Parts → Option Fault
-addresses_fault parts = fault_unless (nat_le (parts.entry + length parts.text + length parts.data_part + parts.bss) GREATEST_ADDRESS) TOO_LARGE GREATEST_ADDRESS
+-- the kind of each entry is accepted, `place` of them standing before
+abbrev pub kinds_checks : ℕ → List Named → List Check
+kinds_checks place [] = []
+kinds_checks place (n ∷ named) = check (is_accepted_kind n.kind) KIND place ∷ kinds_checks (place + 1) named
 
--- the file passes its size limit
-abbrev pub size_fault : Contents → Option Fault
-size_fault o = fault_unless (nat_le (length (file_of o)) FILE_LIMIT) TOO_LARGE FILE_LIMIT
+-- the end of bss is an address
+abbrev pub addresses_check : Parts → Check
+addresses_check parts = check (nat_le (parts.entry + length parts.text + length parts.data_part + parts.bss) GREATEST_ADDRESS) TOO_LARGE GREATEST_ADDRESS
 
--- the same for a file of these parts, so many entries and a string table of so many bytes
-abbrev pub length_fault : Parts → ℕ → ℕ → Option Fault
-length_fault parts entries table =
-    fault_unless (nat_le (HEADER_SIZE + length parts.text + length parts.data_part + (length parts.text_relocs + length parts.data_relocs) * RELOC_SIZE
-    + entries * ENTRY_SIZE + table) FILE_LIMIT) TOO_LARGE FILE_LIMIT
+-- a file of so many bytes is within the limit
+abbrev pub size_check : ℕ → Check
+size_check size = check (nat_le size FILE_LIMIT) TOO_LARGE FILE_LIMIT
 
--- the first fault of parts and entries that make no object
-abbrev pub make_fault : Parts → List Named → Option Fault
-make_fault parts named = fault_or (kinds_fault 0 named) (fault_or (addresses_fault parts) (size_fault (made parts named)))
+-- all of them
+abbrev pub make_checks : Parts → List Named → List Check
+make_checks parts named = kinds_checks 0 named ++ (addresses_check parts ∷ size_check (length (file_of (made parts named))) ∷ [])
+
+-- ---- what the code keeps on its way
+
+-- the size of a file of these parts, so many entries and a string table of so many bytes
+abbrev pub size_with : Parts → ℕ → ℕ → ℕ
+size_with parts entries table =
+    HEADER_SIZE + length parts.text + length parts.data_part + (length parts.text_relocs + length parts.data_relocs) * RELOC_SIZE + entries * ENTRY_SIZE + table

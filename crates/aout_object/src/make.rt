@@ -1,12 +1,12 @@
-ghost use Rattle.std.specs.Prelude.{◌≡◌, ◌≢◌, ◌<◌, ◌≤◌, ◌^◌, ◌+◌, ◌*◌, [], length, All, IfOk, IfErr, OnOk, None};
+ghost use Rattle.std.specs.Prelude.{◌≡◌, ◌≢◌, ◌<◌, ◌≤◌, ◌^◌, ◌+◌, ◌*◌, [], ◌∷◌, length, All, IfOk, IfErr, OnOk, None};
 ghost use Rattle.st_base.specs.ByteOrder.{is_big};
-ghost use Rattle.st_base.specs.Faults.{unless};
+ghost use Rattle.st_base.specs.Faults.{checked, first_fault};
 ghost use Rattle.nlist_codec.specs.Entries.{EntryFits};
 ghost use Rattle.reloc.specs.Relocs.{RelocFits};
 ghost use Rattle.strtab.specs.Names.{RefusesSize, size_of, offset_of, first_uses, added, table_of};
 ghost use Rattle.strtab.specs.StringTable.{HasNoZero};
 ghost use Rattle.aout_layout.specs.declared.header.TheConstants.{TWO_ORDERS};
-ghost use Rattle.aout_object.specs.Objects.{named_of};
+ghost use Rattle.aout_object.specs.Objects.{file_of, named_of};
 ghost use Rattle.aout_object.specs.Making as spec;
 ghost use Rattle.aout_object.specs.Making.{HasWholeName};
 ghost use Rattle.aout_object.specs.Decoding.{Answers};
@@ -24,7 +24,7 @@ use std::alloc::Global;
 use strtab::Builder;
 
 fn check_kinds(named: &[Named]) -> Result<(), Fault>
-    ensures { result ≡ unless (spec.kinds_fault 0 named.now) tt }
+    ensures { result ≡ checked (spec.kinds_checks 0 named.now) tt }
 {
     for (place, entry) in named.iter().enumerate() {
         if !is_accepted_kind(entry.kind) {
@@ -35,7 +35,7 @@ fn check_kinds(named: &[Named]) -> Result<(), Fault>
 }
 
 fn check_addresses(parts: &Parts) -> Result<(), Fault>
-    ensures { result ≡ unless (spec.addresses_fault parts.now) tt }
+    ensures { result ≡ checked (spec.addresses_check parts.now ∷ []) tt }
 {
     let end = parts.entry as u128
         + parts.text.bytes().len() as u128
@@ -114,7 +114,7 @@ fn addresses_are_words(relocs: &[Reloc])
 }
 
 fn check_size(parts: &Parts, entries: usize, table: usize) -> Result<(), Fault>
-    ensures { result ≡ unless (spec.length_fault parts.now entries table) tt }
+    ensures { result ≡ checked (spec.size_check (spec.size_with parts.now entries table) ∷ []) tt }
 {
     let relocs = parts.text_relocs.len() as u128 + parts.data_relocs.len() as u128;
     let size = HEADER_SIZE as u128
@@ -151,9 +151,9 @@ fn make_checked(alloc: Global, parts: Parts, named: &[Named]) -> Result<Object, 
     requires text_relocs { All RelocFits parts.text_relocs }
     requires data_relocs { All RelocFits parts.data_relocs }
     requires machine { parts.machine ≢ TWO_ORDERS }
-    requires kinds { spec.kinds_fault 0 named.now ≡ None }
-    requires addresses { spec.addresses_fault parts ≡ None }
-    ensures { Answers result (spec.size_fault (spec.made parts named.now)) (spec.made parts named.now) }
+    requires kinds { first_fault (spec.kinds_checks 0 named.now) ≡ None }
+    requires addresses { first_fault (spec.addresses_check parts ∷ []) ≡ None }
+    ensures { Answers result (first_fault (spec.size_check (length (file_of (spec.made parts named.now))) ∷ [])) (spec.made parts named.now) }
 {
     let mut builder = Builder::new(alloc)?;
     let entries = add_entries(alloc, &mut builder, named)?;
@@ -180,7 +180,7 @@ impl Object {
         requires text_relocs { All RelocFits parts.text_relocs }
         requires data_relocs { All RelocFits parts.data_relocs }
         requires machine { parts.machine ≢ TWO_ORDERS }
-        ensures made { Answers result (spec.make_fault parts named.now) (spec.made parts named.now) }
+        ensures made { Answers result (first_fault (spec.make_checks parts named.now)) (spec.made parts named.now) }
         ensures named { IfOk result (λ o. named_of o ≡ named.now) }
     {
         check_kinds(named.items())?;

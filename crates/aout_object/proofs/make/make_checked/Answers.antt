@@ -1,14 +1,15 @@
 -- The names were added and the size counted: what was made is the object, or its file is too large.
-use Rattle.std.proofs.Common.{◌≡◌, ◌∙◌, List, ℕ, length, refl, sym, ap, subst}
+use Rattle.std.proofs.Common.{◌≡◌, ◌∙◌, List, [], ◌∷◌, ℕ, length, refl, sym, ap, subst}
 use Rattle.std.specs.Prelude.{None}
 use Rattle.std.proofs.lemmas.Result.{err_from_is_err_and}
 use Rattle.st_base.specs.ByteOrder.{is_big}
+use Rattle.st_base.specs.Faults.{first_fault}
 use Rattle.nlist_codec.specs.Entries.{EntryFits}
 use Rattle.strtab.specs.Names.{table_of}
 use Rattle.std.specs.Prelude.{All}
 use Rattle.nlist_codec.specs.declared.entry.Entry.{Entry}
-use Rattle.aout_object.specs.Objects.{ObjectFits}
-use Rattle.aout_object.specs.Making.{made, size_fault}
+use Rattle.aout_object.specs.Objects.{file_of, ObjectFits}
+use Rattle.aout_object.specs.Making.{made, size_check}
 use Rattle.aout_object.proofs.AnswerLemmas.{unless-ok, unless-err}
 use Rattle.aout_object.proofs.MakeLemmas.{made-fits, made-is, relocs-fit, table-refused, size-fault}
 use Rattle.aout_object.proofs.make.make_checked.Goals as goal
@@ -22,7 +23,7 @@ is_made : (c : goal.After-parts_are_numbers) → record { parts = c.args.parts; 
 is_made c = made-is c.args.parts c.args.named.now c.in_ok-entries.entries c.finish-strings.result c.in_ok-entries.ensures.entries (strings_is c)
 
 -- its file is not too large
-fits : (c : goal.After-parts_are_numbers) → size_fault (made c.args.parts c.args.named.now) ≡ None
+fits : (c : goal.After-parts_are_numbers) → first_fault (size_check (length (file_of (made c.args.parts c.args.named.now))) ∷ []) ≡ None
 fits c = size-fault c.args.parts c.args.named.now _ _ None refl (ap (λ (x : List ℕ). length x) (c.bytes.ensures ∙ strings_is c)) (unless-ok _ _ _ c.in_ok-check_size.ensures)
 
 pub invariant_of-result : goal.invariant_of-result
