@@ -6,7 +6,7 @@ use Rattle.readers.specs.Spelling.{Form, Begun, Within}
 use Rattle.readers.specs.Readers.{Reader, choose, nothing}
 use Rattle.readers.proofs.Cases.{which, eqb_self, zero_not}
 use Rattle.readers.proofs.Cuts.{later, later_some, later_none, cut}
-use Rattle.readers.proofs.Laws.{Breaks, Dives, Laws}
+use Rattle.readers.proofs.Laws.{Breaks, Breaks-behind, Dives, Dives-behind, Laws}
 
 -- the byte b in front
 abbrev pub behind_form : {A : Type 0} → ℕ → Form A → Form A
@@ -68,15 +68,7 @@ module _ (n : ℕ) {A : Type 0} (r : Reader A) (F : Form A) (follows : ℕ → B
       elim (which (eqb c b)) [
         | inl hit ↦
             let k = laws.bad bytes left (rw hit at e) in
-            record {
-              front = b ∷ k.front;
-              byte = k.byte;
-              rest = k.rest;
-              parts = ap (λ (z : ℕ). z ∷ bytes) (eqb-true c b hit) ∙ ap (λ (z : List ℕ). b ∷ z) k.parts;
-              place = k.place;
-              stays = λ more. own (k.front ++ (k.byte ∷ more)) ∙ k.stays more;
-              begun = begun k.front k.begun;
-            }
+            Breaks-behind r F it G b c bytes left hit k (λ more. own (k.front ++ (k.byte ∷ more)) ∙ k.stays more) (begun k.front k.begun)
         | inr miss ↦
             let f : Err (Bad (length (c ∷ bytes))) ≡ Err (Bad left) = rw miss at e in
             record { front = []; byte = c; rest = bytes; parts = refl; place = cc; stays = λ more. rw miss refl; begun = begun_none }
@@ -89,16 +81,7 @@ module _ (n : ℕ) {A : Type 0} (r : Reader A) (F : Form A) (follows : ℕ → B
       elim (which (eqb c b)) [
         | inl hit ↦
             let k = laws.deep bytes left (rw hit at e) in
-            record {
-              front = b ∷ k.front;
-              byte = k.byte;
-              rest = k.rest;
-              parts = ap (λ (z : ℕ). z ∷ bytes) (eqb-true c b hit) ∙ ap (λ (z : List ℕ). b ∷ z) k.parts;
-              place = k.place;
-              whole = k.whole;
-              is_shaped = k.is_shaped;
-              first = cuts' k.whole ∙ ap (later b) k.first;
-            }
+            Dives-behind n F G b c bytes left hit k k.whole k.is_shaped (cuts' k.whole)
         | inr miss ↦ let f = rw miss at e in absurd cc
       ]
 

@@ -7,7 +7,7 @@ use Rattle.readers.specs.Spelling.{Form, Begun, Within}
 use Rattle.readers.specs.Readers.{Reader, made, choose}
 use Rattle.readers.proofs.Cases.{which, eqb_self, zero_not, made_ok, made_err}
 use Rattle.readers.proofs.Cuts.{After, later, later_some, later_none, cut, cut_front}
-use Rattle.readers.proofs.Laws.{Breaks, Dives, Laws}
+use Rattle.readers.proofs.Laws.{Breaks, Breaks-behind, Dives, Dives-behind, Laws}
 use Rattle.readers.proofs.Made.{Of}
 
 -- a text that begins with another byte
@@ -121,15 +121,7 @@ module _ (n : ℕ) {A B : Type 0} (r : Reader A) (F : Form A) (follows : ℕ →
       elim (which (eqb c b)) [
         | inl hit ↦
             let k = laws.bad bytes left (made_err make (r bytes) (Bad left) (rw hit at e)) in
-            record {
-              front = b ∷ k.front;
-              byte = k.byte;
-              rest = k.rest;
-              parts = ap (λ (z : ℕ). z ∷ bytes) (eqb-true c b hit) ∙ ap (λ (z : List ℕ). b ∷ z) k.parts;
-              place = k.place;
-              stays = λ more. rw (eqb_self b, k.stays more) refl;
-              begun = begun_made k.front k.begun;
-            }
+            Breaks-behind r F (choose b q other) H b c bytes left hit k (λ more. rw (eqb_self b, k.stays more) refl) (begun_made k.front k.begun)
         | inr miss ↦
             let k = others.bad (c ∷ bytes) left (rw miss at e) in
             record {
@@ -150,16 +142,7 @@ module _ (n : ℕ) {A B : Type 0} (r : Reader A) (F : Form A) (follows : ℕ →
       elim (which (eqb c b)) [
         | inl hit ↦
             let k = laws.deep bytes left (made_err make (r bytes) (Deep left) (rw hit at e)) in
-            record {
-              front = b ∷ k.front;
-              byte = k.byte;
-              rest = k.rest;
-              parts = ap (λ (z : ℕ). z ∷ bytes) (eqb-true c b hit) ∙ ap (λ (z : List ℕ). b ∷ z) k.parts;
-              place = k.place;
-              whole = make k.whole;
-              is_shaped = inl (k.whole, k.is_shaped, refl);
-              first = cuts k.whole ∙ ap (later b) k.first;
-            }
+            Dives-behind n F H b c bytes left hit k (make k.whole) (inl (k.whole, k.is_shaped, refl)) (cuts k.whole)
         | inr miss ↦
             let k = others.deep (c ∷ bytes) left (rw miss at e) in
             record { front = k.front; byte = k.byte; rest = k.rest; parts = k.parts; place = k.place; whole = k.whole; is_shaped = inr k.is_shaped; first = k.first }

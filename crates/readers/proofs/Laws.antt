@@ -1,11 +1,12 @@
 -- What every reader keeps, that reads a form with nodes of at most n in depth: the laws that the ways to put readers
 -- together hand on, and from which the exact first fault follows.
-use Rattle.std.proofs.Common.{◌≡◌, ℕ, Bool, List, ◌∷◌, ◌++◌, length, Ok, Err, None, Some, sym, ◌∙◌}
+use Rattle.std.proofs.Common.{◌≡◌, ℕ, Bool, true, eqb, List, ◌∷◌, ◌++◌, length, Ok, Err, None, Some, sym, ap, ◌∙◌}
+use Rattle.std.proofs.lemmas.Bool.{eqb-true}
 use Rattle.std.proofs.lemmas.Option.{none-some}
 use Rattle.readers.specs.declared.stop.Stop.TheVariants.{Bad, End, Deep}
 use Rattle.readers.specs.Spelling.{Form, Begun, Within, none}
 use Rattle.readers.specs.Readers.{Reader}
-use Rattle.readers.proofs.Cuts.{After, cut, within_cut, length_none, within_none}
+use Rattle.readers.proofs.Cuts.{After, later, cut, within_cut, length_none, within_none}
 
 -- the text before the fault is the front of a spelling, and the fault doesn't depend on what comes later
 pub record Breaks {A : Type 0} (r : Reader A) (F : Form A) (bytes : List ℕ) (left : ℕ) : Type 0 where
@@ -46,6 +47,35 @@ pub record Laws (n : ℕ) {A : Type 0} (r : Reader A) (F : Form A) (follows : �
   pub deep : (bytes : List ℕ) (left : ℕ) → r bytes ≡ Err (Deep left) → Dives n F bytes left
   -- a text that ends too early is the front of a spelling
   pub ending : (bytes : List ℕ) → r bytes ≡ Err End → Begun F.print F.shaped bytes
+
+-- ---- one byte in front
+
+-- a wrong byte behind b, of a reader that takes b and then reads as another
+pub Breaks-behind : {A B : Type 0} (r : Reader A) (F : Form A) (it : Reader B) (G : Form B) (b c : ℕ) (bytes : List ℕ) (left : ℕ) → eqb c b ≡ true → (k : Breaks r F bytes left)
+    → ((other : List ℕ) → it (b ∷ (k.front ++ (k.byte ∷ other))) ≡ Err (Bad (length (k.byte ∷ other)))) → Begun G.print G.shaped (b ∷ k.front) → Breaks it G (c ∷ bytes) left
+Breaks-behind r F it G b c bytes left hit k stays begun = record {
+  front = b ∷ k.front;
+  byte = k.byte;
+  rest = k.rest;
+  parts = ap (λ (z : ℕ). z ∷ bytes) (eqb-true c b hit) ∙ ap (λ (z : List ℕ). b ∷ z) k.parts;
+  place = k.place;
+  stays = stays;
+  begun = begun;
+}
+
+-- a node behind b that is too deep, of a value whose spelling is b and then another's
+pub Dives-behind : (n : ℕ) {A B : Type 0} (F : Form A) (G : Form B) (b c : ℕ) (bytes : List ℕ) (left : ℕ) → eqb c b ≡ true → (k : Dives n F bytes left) (whole : B) → G.shaped whole
+    → cut n (G.print whole) (G.depths whole) ≡ later b (cut n (F.print k.whole) (F.depths k.whole)) → Dives n G (c ∷ bytes) left
+Dives-behind n F G b c bytes left hit k whole is_shaped cuts = record {
+  front = b ∷ k.front;
+  byte = k.byte;
+  rest = k.rest;
+  parts = ap (λ (z : ℕ). z ∷ bytes) (eqb-true c b hit) ∙ ap (λ (z : List ℕ). b ∷ z) k.parts;
+  place = k.place;
+  whole = whole;
+  is_shaped = is_shaped;
+  first = cuts ∙ ap (later b) k.first;
+}
 
 -- ---- a reader of values without nodes
 

@@ -6,7 +6,7 @@ use Rattle.readers.specs.Spelling.{Form, Begun, Within}
 use Rattle.readers.specs.Readers.{Reader, ◌>>=◌, remade, optional}
 use Rattle.readers.proofs.Cases.{which, eqb_self, zero_not, ok_parts, made_ok, made_err}
 use Rattle.readers.proofs.Cuts.{After, later, later_some, later_none, cut}
-use Rattle.readers.proofs.Laws.{Breaks, Dives, Laws}
+use Rattle.readers.proofs.Laws.{Breaks, Breaks-behind, Dives, Dives-behind, Laws}
 
 -- b and the spelling, or nothing
 abbrev pub opt_print : {A : Type 0} → ℕ → (A → List ℕ) → Option A → List ℕ
@@ -112,15 +112,7 @@ module _ (n : ℕ) {A : Type 0} (r : Reader A) (F : Form A) (follows : ℕ → B
       elim (which (eqb c b)) [
         | inl hit ↦
             let k = laws.bad bytes left (made_err Some (r bytes) (Bad left) (rw hit at e)) in
-            record {
-              front = b ∷ k.front;
-              byte = k.byte;
-              rest = k.rest;
-              parts = ap (λ (z : ℕ). z ∷ bytes) (eqb-true c b hit) ∙ ap (λ (z : List ℕ). b ∷ z) k.parts;
-              place = k.place;
-              stays = λ more. own (k.front ++ (k.byte ∷ more)) ∙ rw (k.stays more) refl;
-              begun = begun k.front k.begun;
-            }
+            Breaks-behind r F it G b c bytes left hit k (λ more. own (k.front ++ (k.byte ∷ more)) ∙ rw (k.stays more) refl) (begun k.front k.begun)
         | inr miss ↦ let f = rw miss at e in absurd cc
       ]
 
@@ -131,16 +123,7 @@ module _ (n : ℕ) {A : Type 0} (r : Reader A) (F : Form A) (follows : ℕ → B
       elim (which (eqb c b)) [
         | inl hit ↦
             let k = laws.deep bytes left (made_err Some (r bytes) (Deep left) (rw hit at e)) in
-            record {
-              front = b ∷ k.front;
-              byte = k.byte;
-              rest = k.rest;
-              parts = ap (λ (z : ℕ). z ∷ bytes) (eqb-true c b hit) ∙ ap (λ (z : List ℕ). b ∷ z) k.parts;
-              place = k.place;
-              whole = Some k.whole;
-              is_shaped = k.is_shaped;
-              first = cuts k.whole ∙ ap (later b) k.first;
-            }
+            Dives-behind n F G b c bytes left hit k (Some k.whole) k.is_shaped (cuts k.whole)
         | inr miss ↦ let f = rw miss at e in absurd cc
       ]
 
