@@ -18,51 +18,28 @@ use Rattle.aout_layout.specs.Headers.{header_of, has_magic, fields_bytes, header
 
 -- ---- the magic in both orders
 
--- the magic in little order is the machine word 0x0701 in big order
-magic_in_little : (bytes : List ℕ) → IsBytes bytes → 4 ≤ length bytes → number_at false bytes 0 4 % 65536 ≡ OMAGIC → number_at true bytes 0 4 / 65536 ≡ TWO_ORDERS
-magic_in_little [] are_bytes long magic = absurd (omega arith)
-magic_in_little (a ∷ []) are_bytes long magic = absurd (omega arith)
-magic_in_little (a ∷ b ∷ []) are_bytes long magic = absurd (omega arith)
-magic_in_little (a ∷ b ∷ c ∷ []) are_bytes long magic = absurd (omega arith)
-magic_in_little (a ∷ b ∷ c ∷ d ∷ rest) are_bytes long magic =
-    omega (arith, magic, are_bytes.0, are_bytes.1.0, are_bytes.1.1.0, are_bytes.1.1.1.0)
-
--- the magic in big order is the machine word 0x0701 in little order
-magic_in_big : (bytes : List ℕ) → IsBytes bytes → 4 ≤ length bytes → number_at true bytes 0 4 % 65536 ≡ OMAGIC → number_at false bytes 0 4 / 65536 ≡ TWO_ORDERS
-magic_in_big [] are_bytes long magic = absurd (omega arith)
-magic_in_big (a ∷ []) are_bytes long magic = absurd (omega arith)
-magic_in_big (a ∷ b ∷ []) are_bytes long magic = absurd (omega arith)
-magic_in_big (a ∷ b ∷ c ∷ []) are_bytes long magic = absurd (omega arith)
-magic_in_big (a ∷ b ∷ c ∷ d ∷ rest) are_bytes long magic =
-    omega (arith, magic, are_bytes.0, are_bytes.1.0, are_bytes.1.1.0, are_bytes.1.1.1.0)
-
--- the machine word 0x0701 in big order is the magic in little order
-machine_in_big : (bytes : List ℕ) → IsBytes bytes → 4 ≤ length bytes → number_at true bytes 0 4 / 65536 ≡ TWO_ORDERS → number_at false bytes 0 4 % 65536 ≡ OMAGIC
-machine_in_big [] are_bytes long machine = absurd (omega arith)
-machine_in_big (a ∷ []) are_bytes long machine = absurd (omega arith)
-machine_in_big (a ∷ b ∷ []) are_bytes long machine = absurd (omega arith)
-machine_in_big (a ∷ b ∷ c ∷ []) are_bytes long machine = absurd (omega arith)
-machine_in_big (a ∷ b ∷ c ∷ d ∷ rest) are_bytes long machine =
-    omega (arith, machine, are_bytes.0, are_bytes.1.0, are_bytes.1.1.0, are_bytes.1.1.1.0)
-
--- the machine word 0x0701 in little order is the magic in big order
-machine_in_little : (bytes : List ℕ) → IsBytes bytes → 4 ≤ length bytes → number_at false bytes 0 4 / 65536 ≡ TWO_ORDERS → number_at true bytes 0 4 % 65536 ≡ OMAGIC
-machine_in_little [] are_bytes long machine = absurd (omega arith)
-machine_in_little (a ∷ []) are_bytes long machine = absurd (omega arith)
-machine_in_little (a ∷ b ∷ []) are_bytes long machine = absurd (omega arith)
-machine_in_little (a ∷ b ∷ c ∷ []) are_bytes long machine = absurd (omega arith)
-machine_in_little (a ∷ b ∷ c ∷ d ∷ rest) are_bytes long machine =
-    omega (arith, machine, are_bytes.0, are_bytes.1.0, are_bytes.1.1.0, are_bytes.1.1.1.0)
+-- the magic in one order is the machine word 0x0701 in the other
+other_order : (big : Bool) (bytes : List ℕ) → IsBytes bytes → 4 ≤ length bytes → (number_at (not big) bytes 0 4 % 65536 ≡ OMAGIC) ↔ (number_at big bytes 0 4 / 65536 ≡ TWO_ORDERS)
+other_order big [] are_bytes long = absurd (omega arith)
+other_order big (a ∷ []) are_bytes long = absurd (omega arith)
+other_order big (a ∷ b ∷ []) are_bytes long = absurd (omega arith)
+other_order big (a ∷ b ∷ c ∷ []) are_bytes long = absurd (omega arith)
+other_order true (a ∷ b ∷ c ∷ d ∷ rest) are_bytes long = (
+  λ magic. omega (arith, magic, are_bytes.0, are_bytes.1.0, are_bytes.1.1.0, are_bytes.1.1.1.0),
+  λ machine. omega (arith, machine, are_bytes.0, are_bytes.1.0, are_bytes.1.1.0, are_bytes.1.1.1.0),
+)
+other_order false (a ∷ b ∷ c ∷ d ∷ rest) are_bytes long = (
+  λ magic. omega (arith, magic, are_bytes.0, are_bytes.1.0, are_bytes.1.1.0, are_bytes.1.1.1.0),
+  λ machine. omega (arith, machine, are_bytes.0, are_bytes.1.0, are_bytes.1.1.0, are_bytes.1.1.1.0),
+)
 
 -- where the other order lacks the magic, the machine word is another
 machine_told : (big : Bool) (bytes : List ℕ) → IsBytes bytes → 4 ≤ length bytes → has_magic (not big) bytes ≡ false → number_at big bytes 0 4 / 65536 ≢ TWO_ORDERS
-machine_told true bytes are_bytes long lacks = λ machine. eqb-false _ _ lacks (machine_in_big bytes are_bytes long machine)
-machine_told false bytes are_bytes long lacks = λ machine. eqb-false _ _ lacks (machine_in_little bytes are_bytes long machine)
+machine_told big bytes are_bytes long lacks = λ machine. eqb-false _ _ lacks ((other_order big bytes are_bytes long).1 machine)
 
 -- where the machine word is another, the other order lacks the magic
-other_lacks : (big : Bool) (bytes : List ℕ) → IsBytes bytes → 4 ≤ length bytes → number_at big bytes 0 4 % 65536 ≡ OMAGIC → number_at big bytes 0 4 / 65536 ≢ TWO_ORDERS → has_magic (not big) bytes ≡ false
-other_lacks true bytes are_bytes long magic told = ne_eqb _ _ (λ other. told (magic_in_little bytes are_bytes long other))
-other_lacks false bytes are_bytes long magic told = ne_eqb _ _ (λ other. told (magic_in_big bytes are_bytes long other))
+other_lacks : (big : Bool) (bytes : List ℕ) → IsBytes bytes → 4 ≤ length bytes → number_at big bytes 0 4 / 65536 ≢ TWO_ORDERS → has_magic (not big) bytes ≡ false
+other_lacks big bytes are_bytes long told = ne_eqb _ _ (λ magic. told ((other_order big bytes are_bytes long).0 magic))
 
 -- ---- the checks of the sizes
 
@@ -122,7 +99,7 @@ spelled-read bytes h are_bytes long spells =
     let big : Bool = is_big h.order in
     let machine : number_at big bytes 0 4 / 65536 ≡ h.machine = ap (λ (x : Header). x.machine) spells.fields in
     let told : number_at big bytes 0 4 / 65536 ≢ TWO_ORDERS = λ e. spells.fits.order_told (sym machine ∙ e) in
-    read_in big bytes (eq-eqb _ _ spells.magic) (other_lacks big bytes are_bytes long spells.magic told)
+    read_in big bytes (eq-eqb _ _ spells.magic) (other_lacks big bytes are_bytes long told)
     ∙ ap (λ (x : Header). checked (size_checks x) x) spells.fields
     ∙ checked-AllHold (size_checks h) h (sizes-pass h spells.fits)
 
