@@ -2,7 +2,7 @@
 use Rattle.std.proofs.Common.{◌≡◌, ℕ, List, refl, sym, ap, subst, ◌∙◌, inl, inr}
 use Rattle.std.specs.Prelude.{Option, Some, None, Result, Ok, Err, ◌⊎◌}
 use Rattle.st_base.specs.ByteOrder.{is_big}
-use Rattle.st_base.specs.Faults.{unless}
+use Rattle.st_base.specs.Faults.{first_fault, unless}
 use Rattle.st_base.specs.Number.{IsBytes}
 use Rattle.nlist_codec.specs.declared.entry.Entry.{Entry}
 use Rattle.nlist_codec.specs.Entries.{entries_in}
@@ -12,8 +12,8 @@ use Rattle.st_base.specs.declared.fault.Refused.{Refused}
 use Rattle.st_base.specs.declared.fault.Refused.TheVariants as refused
 use Rattle.aout_layout.specs.declared.header.Header.{Header}
 use Rattle.aout_object.specs.Objects.{Contents, header_for, ObjectSpells}
-use Rattle.aout_object.specs.Checks.{entries_part, strings_part, FileFault}
-use Rattle.aout_object.specs.Decoding.{fault_or, contents_in, all_relocs_fault, entries_fault, places_fault, records_fault, header_in, fault_behind, Answers, Decodes, Gives}
+use Rattle.aout_object.specs.Checks.{entries_part, strings_part, place_checks, FileFault}
+use Rattle.aout_object.specs.Decoding.{fault_or, contents_in, all_relocs_fault, entries_fault, records_fault, header_in, fault_behind, Answers, Decodes, Gives}
 use Rattle.aout_object.proofs.FileLemmas.{contents-spell}
 use Rattle.aout_object.proofs.FaultLemmas.{none-fault_or}
 use Rattle.aout_object.proofs.RecordLemmas.{fault_or-none}
@@ -46,11 +46,11 @@ pub object_or_fault : (bytes : List ℕ) → IsBytes bytes → ((object : Conten
 object_or_fault bytes are_bytes = by_header (header_in bytes) refl where
   by_header : (header : Result Header Fault) → header_in bytes ≡ header → ((object : Contents) × ObjectSpells object bytes) ⊎ ((fault : Fault) × FileFault bytes fault)
   by_header (Err fault) is = inr (fault, FileFault-steps bytes fault (ap (λ (r : Result Header Fault). fault_behind r bytes) is))
-  by_header (Ok h) is = by_fault (fault_or (places_fault h bytes) (records_fault h bytes)) refl where
-    by_fault : (found : Option Fault) → fault_or (places_fault h bytes) (records_fault h bytes) ≡ found
+  by_header (Ok h) is = by_fault (fault_or (first_fault (place_checks h bytes)) (records_fault h bytes)) refl where
+    by_fault : (found : Option Fault) → fault_or (first_fault (place_checks h bytes)) (records_fault h bytes) ≡ found
         → ((object : Contents) × ObjectSpells object bytes) ⊎ ((fault : Fault) × FileFault bytes fault)
     by_fault None none =
-        let parts = fault_or-none (places_fault h bytes) (records_fault h bytes) none in
+        let parts = fault_or-none (first_fault (place_checks h bytes)) (records_fault h bytes) none in
         inl (contents_in h bytes, contents-spell bytes h are_bytes is parts.0 parts.1)
     by_fault (Some fault) found = inr (fault, FileFault-steps bytes fault (ap (λ (r : Result Header Fault). fault_behind r bytes) is ∙ found))
 
@@ -84,12 +84,12 @@ pub decodes-header : (bytes : List ℕ) (fault : Fault) → header_in bytes ≡ 
 decodes-header bytes fault is = FileFault-steps bytes fault (ap (λ (r : Result Header Fault). fault_behind r bytes) is)
 
 -- a fault of the sizes is the file's fault
-pub decodes-sizes : (bytes : List ℕ) (h : Header) (fault : Fault) → header_in bytes ≡ Ok h → places_fault h bytes ≡ Some fault → FileFault bytes fault
+pub decodes-sizes : (bytes : List ℕ) (h : Header) (fault : Fault) → header_in bytes ≡ Ok h → first_fault (place_checks h bytes) ≡ Some fault → FileFault bytes fault
 decodes-sizes bytes h fault is found =
     FileFault-steps bytes fault (ap (λ (r : Result Header Fault). fault_behind r bytes) is ∙ ap (λ (f : Option Fault). fault_or f (records_fault h bytes)) found)
 
 -- where the sizes pass, what the reading of the parts answers is what decoding answers
-pub decodes-parts : (bytes : List ℕ) (h : Header) (answer : Result Contents Refused) → IsBytes bytes → header_in bytes ≡ Ok h → places_fault h bytes ≡ None
+pub decodes-parts : (bytes : List ℕ) (h : Header) (answer : Result Contents Refused) → IsBytes bytes → header_in bytes ≡ Ok h → first_fault (place_checks h bytes) ≡ None
     → Answers answer (records_fault h bytes) (contents_in h bytes) → Decodes answer bytes
 decodes-parts bytes h (Ok o) are_bytes is sizes told = subst (λ (x : Contents). ObjectSpells x bytes) (sym told.1) (contents-spell bytes h are_bytes is sizes told.0)
 decodes-parts bytes h (Err refused.Memory) are_bytes is sizes told = tt

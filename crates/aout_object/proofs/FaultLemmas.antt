@@ -6,14 +6,14 @@ use Rattle.std.specs.List.{AllByRecursion}
 use Rattle.std.proofs.lemmas.Bool.{cases_Bool, leb-true, le-leb}
 use Rattle.st_base.specs.ByteOrder.{is_big}
 use Rattle.st_base.specs.declared.fault.Fault.{Fault}
-use Rattle.st_base.specs.declared.fault.TheConstants.{TRUNCATED, TRAILING, LENGTH, KIND, INSIDE, PAST}
-use Rattle.st_base.specs.Number.{number}
+use Rattle.st_base.specs.declared.fault.TheConstants.{KIND, INSIDE, PAST}
+use Rattle.st_base.proofs.CheckLemmas.{AllHold}
 use Rattle.aout_layout.specs.declared.header.Header.{Header}
 use Rattle.nlist_codec.specs.declared.entry.Entry.{Entry}
 use Rattle.strtab.specs.StringTable.{HasOwnLength, name_in, is_zero}
 use Rattle.aout_object.specs.Objects.{IsAccepted}
-use Rattle.aout_object.specs.Checks.{table_at, is_absent, word_in}
-use Rattle.aout_object.specs.Decoding.{fault_or, fault_unless, end_fault, name_fault, entries_fault, table_fault, trailing_fault}
+use Rattle.aout_object.specs.Checks.{table_at, is_absent, word_in, table_checks}
+use Rattle.aout_object.specs.Decoding.{fault_or, fault_unless, end_fault, name_fault, entries_fault}
 use Rattle.aout_object.proofs.RecordLemmas.{fault_or-none}
 
 -- ---- one test
@@ -83,36 +83,31 @@ none-entries_fault strings place (e ∷ entries) all =
 
 -- ---- the string table
 
--- the string table where the checks find no fault: it is absent, or begins with its own length and nothing follows it
-pub table-stands : (h : Header) (bytes : List ℕ) → table_at h ≤ length bytes → table_fault h bytes ≡ None → trailing_fault h bytes ≡ None
+-- the string table that passes its checks: it is absent, or begins with its own length and nothing follows it
+pub table-stands : (h : Header) (bytes : List ℕ) → table_at h ≤ length bytes → AllHold (table_checks h bytes)
     → (is_absent h bytes ≡ true) ⊎ HasOwnLength (is_big h.order) (drop (table_at h) bytes)
-table-stands h bytes within table trailing = elim (cases_Bool (is_absent h bytes)) [ inl absent ↦ inl absent | inr there ↦ inr (stands there) ] where
+table-stands h bytes within all = elim (cases_Bool (is_absent h bytes)) [ inl absent ↦ inl absent | inr there ↦ inr (stands there) ] where
   stands : is_absent h bytes ≡ false → HasOwnLength (is_big h.order) (drop (table_at h) bytes)
   stands there =
-      let word_there : Option Fault = fault_unless (nat_le (table_at h + 4) (length bytes)) TRUNCATED (length bytes) in
-      let long_enough : Option Fault = fault_unless (nat_le 4 (word_in h bytes)) LENGTH (table_at h) in
-      let table_there : Option Fault = fault_unless (nat_le (table_at h + word_in h bytes) (length bytes)) TRUNCATED (length bytes) in
-      let sizes = fault_or-none word_there (fault_or long_enough table_there) (rw there at table) in
-      let words = fault_or-none long_enough table_there sizes.1 in
-      let word = leb-true (table_at h + 4) (length bytes) (fault_unless-none (nat_le (table_at h + 4) (length bytes)) TRUNCATED (length bytes) sizes.0) in
-      let whole = leb-true (table_at h + word_in h bytes) (length bytes) (fault_unless-none (nat_le (table_at h + word_in h bytes) (length bytes)) TRUNCATED (length bytes) words.1) in
-      let last = leb-true (length bytes) (table_at h + word_in h bytes) (fault_unless-none (nat_le (length bytes) (table_at h + word_in h bytes)) TRAILING (table_at h + word_in h bytes) (rw there at trailing)) in
+      let each = rw there at all in
+      let word = leb-true (table_at h + 4) (length bytes) each.0 in
+      let whole = leb-true (table_at h + word_in h bytes) (length bytes) each.1.1.0 in
+      let last = leb-true (length bytes) (table_at h + word_in h bytes) each.1.1.1.0 in
       let long = length-drop (table_at h) bytes in
       record { word = omega (arith, word, long); counts = omega (arith, whole, last, long) }
 
--- where it stands so, the checks find no fault
+-- where it stands so, it passes them
 pub table-passes : (h : Header) (bytes : List ℕ) → table_at h ≤ length bytes → (is_absent h bytes ≡ true) ⊎ HasOwnLength (is_big h.order) (drop (table_at h) bytes)
-    → (table_fault h bytes ≡ None) × (trailing_fault h bytes ≡ None)
-table-passes h bytes within stands = elim (cases_Bool (is_absent h bytes)) [ inl absent ↦ (rw absent refl, rw absent refl) | inr there ↦ passes there stands ] where
-  passes : is_absent h bytes ≡ false → (is_absent h bytes ≡ true) ⊎ HasOwnLength (is_big h.order) (drop (table_at h) bytes)
-      → (table_fault h bytes ≡ None) × (trailing_fault h bytes ≡ None)
+    → AllHold (table_checks h bytes)
+table-passes h bytes within stands = elim (cases_Bool (is_absent h bytes)) [ inl absent ↦ rw absent tt | inr there ↦ passes there stands ] where
+  passes : is_absent h bytes ≡ false → (is_absent h bytes ≡ true) ⊎ HasOwnLength (is_big h.order) (drop (table_at h) bytes) → AllHold (table_checks h bytes)
   passes there (inl absent) = absurd cc
   passes there (inr own) =
       let long = length-drop (table_at h) bytes in
       let word = own.word in
       let counts : word_in h bytes ≡ length (drop (table_at h) bytes) = own.counts in
-      let there_whole = none-fault_unless _ TRUNCATED (length bytes) (le-leb (table_at h + word_in h bytes) (length bytes) (omega (arith, counts, long, within))) in
-      let four = none-fault_unless _ LENGTH (table_at h) (le-leb 4 (word_in h bytes) (omega (arith, counts, word))) in
-      let first = none-fault_unless _ TRUNCATED (length bytes) (le-leb (table_at h + 4) (length bytes) (omega (arith, long, word))) in
-      let nothing = none-fault_unless _ TRAILING (table_at h + word_in h bytes) (le-leb (length bytes) (table_at h + word_in h bytes) (omega (arith, counts, long, within))) in
-      (rw there (none-fault_or _ _ first (none-fault_or _ _ four there_whole)), rw there nothing)
+      let first = le-leb (table_at h + 4) (length bytes) (omega (arith, long, word)) in
+      let four = le-leb 4 (word_in h bytes) (omega (arith, counts, word)) in
+      let whole = le-leb (table_at h + word_in h bytes) (length bytes) (omega (arith, counts, long, within)) in
+      let nothing = le-leb (length bytes) (table_at h + word_in h bytes) (omega (arith, counts, long, within)) in
+      rw there (first, (four, (whole, (nothing, tt))))

@@ -6,10 +6,11 @@ use Rattle.std.specs.Simd.{first_chunks}
 use Rattle.std.proofs.lemmas.Bool.{and_parts, eqb-true, leb-true}
 use Rattle.std.proofs.lemmas.List.{length-map, length-take-le, drop_all}
 use Rattle.st_base.specs.ByteOrder.{is_big}
-use Rattle.st_base.specs.Faults.{fault_at}
+use Rattle.st_base.specs.Faults.{fault_at, first_fault}
 use Rattle.st_base.specs.Number.{IsBytes}
 use Rattle.st_base.specs.declared.fault.TheConstants.{TRUNCATED}
 use Rattle.st_base.proofs.BytesLemmas.{IsBytes-take, IsBytes-drop}
+use Rattle.st_base.proofs.CheckLemmas.{AllHold-first_fault}
 use Rattle.st_base.specs.declared.sizes.TheConstants.{HEADER_SIZE, ENTRY_SIZE, RELOC_SIZE}
 use Rattle.aout_layout.specs.declared.header.Header.{Header}
 use Rattle.aout_layout.specs.Headers.{header_of, header_bytes, HeaderFits, NumbersFit, Spells, read}
@@ -18,9 +19,9 @@ use Rattle.nlist_codec.specs.Entries.{EntryFits, entry_of, entries_in}
 use Rattle.reloc.specs.Relocs.{reloc_of}
 use Rattle.strtab.specs.StringTable.{HasOwnLength}
 use Rattle.aout_object.specs.Objects.{header_for, relocs_bytes, entries_bytes, behind_header, IsReloc, HasTable, ObjectFits, ObjectSpells}
-use Rattle.aout_object.specs.Checks.{data_at, text_relocs_at, data_relocs_at, entries_at, table_at, part, reloc_pieces, text_relocs_part, data_relocs_part, entries_part, strings_part, is_absent}
-use Rattle.aout_object.specs.Decoding.{fault_or, relocs_in, contents_in, parts_fault, table_fault, trailing_fault, places_fault, relocs_fault, entries_fault, records_fault, header_in}
-use Rattle.aout_object.proofs.FaultLemmas.{fault_unless-none, entries_fault-none, table-stands}
+use Rattle.aout_object.specs.Checks.{data_at, text_relocs_at, data_relocs_at, entries_at, table_at, part, reloc_pieces, text_relocs_part, data_relocs_part, entries_part, strings_part, is_absent, place_checks}
+use Rattle.aout_object.specs.Decoding.{relocs_in, contents_in, relocs_fault, entries_fault, records_fault, header_in}
+use Rattle.aout_object.proofs.FaultLemmas.{entries_fault-none, table-stands}
 use Rattle.aout_object.proofs.PlaceLemmas.{length-part, part-then}
 use Rattle.aout_object.proofs.RecordLemmas.{number_at-lt, length-first_chunks, fault_or-none, relocs-read, entries-read}
 
@@ -93,7 +94,7 @@ length-entries_in big bytes n is whole =
 -- ---- without a fault, what lies at the places spells the file
 
 -- the parts of a file in which all are there
-module _ (bytes : List ℕ) (h : Header) (are_bytes : IsBytes bytes) (has : header_in bytes ≡ Ok h) (sizes : places_fault h bytes ≡ None) (records : records_fault h bytes ≡ None) where
+module _ (bytes : List ℕ) (h : Header) (are_bytes : IsBytes bytes) (has : header_in bytes ≡ Ok h) (sizes : first_fault (place_checks h bytes) ≡ None) (records : records_fault h bytes ≡ None) where
   -- the first bytes
   abbrev front : List ℕ
   front = take HEADER_SIZE bytes
@@ -116,7 +117,7 @@ module _ (bytes : List ℕ) (h : Header) (are_bytes : IsBytes bytes) (has : head
 
   -- all parts are there
   there : table_at h ≤ length bytes
-  there = leb-true (table_at h) (length bytes) (fault_unless-none (nat_le (table_at h) (length bytes)) TRUNCATED (length bytes) (fault_or-none (parts_fault h bytes) (fault_or (table_fault h bytes) (trailing_fault h bytes)) sizes).0)
+  there = leb-true (table_at h) (length bytes) (AllHold-first_fault (place_checks h bytes) sizes).0
 
   -- the sizes of the parts
   text_size : length (part bytes HEADER_SIZE h.text) ≡ h.text
@@ -177,10 +178,7 @@ module _ (bytes : List ℕ) (h : Header) (are_bytes : IsBytes bytes) (has : head
 
   -- its string table stands as it must
   table_stands : HasTable (contents_in h bytes)
-  table_stands = by_table (table-stands h bytes there tables.0 tables.1) where
-    tables : (table_fault h bytes ≡ None) × (trailing_fault h bytes ≡ None)
-    tables = fault_or-none (table_fault h bytes) (trailing_fault h bytes) (fault_or-none (parts_fault h bytes) (fault_or (table_fault h bytes) (trailing_fault h bytes)) sizes).1
-
+  table_stands = by_table (table-stands h bytes there (AllHold-first_fault (place_checks h bytes) sizes).1) where
     by_table : (is_absent h bytes ≡ true) ⊎ HasOwnLength (is_big h.order) (drop (table_at h) bytes) → HasTable (contents_in h bytes)
     by_table (inl absent) =
         let both = and_parts (h.symbols == 0) (length bytes == table_at h) absent in

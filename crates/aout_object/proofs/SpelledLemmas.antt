@@ -6,11 +6,12 @@ use Rattle.std.specs.Simd.{first_chunks}
 use Rattle.std.proofs.lemmas.Bool.{and_from, eq-eqb, le-leb}
 use Rattle.std.proofs.lemmas.List.{take_at, drop_at}
 use Rattle.st_base.specs.ByteOrder.{is_big}
-use Rattle.st_base.specs.Faults.{fault_at}
+use Rattle.st_base.specs.Faults.{fault_at, first_fault}
 use Rattle.st_base.specs.Number.{IsBytes}
 use Rattle.st_base.specs.declared.fault.Fault.{Fault}
 use Rattle.st_base.specs.declared.fault.TheConstants.{TRUNCATED}
 use Rattle.st_base.proofs.BytesLemmas.{IsBytes-take}
+use Rattle.st_base.proofs.CheckLemmas.{first_fault-AllHold}
 use Rattle.st_base.specs.declared.sizes.TheConstants.{HEADER_SIZE, ENTRY_SIZE, RELOC_SIZE}
 use Rattle.aout_layout.specs.declared.header.Header.{Header}
 use Rattle.aout_layout.specs.Headers.{header_bytes, read}
@@ -21,9 +22,9 @@ use Rattle.reloc.specs.declared.reloc.Reloc.{Reloc}
 use Rattle.reloc.specs.Relocs.{reloc_of, reloc_bytes}
 use Rattle.strtab.specs.StringTable.{HasOwnLength}
 use Rattle.aout_object.specs.Objects.{Contents, header_for, relocs_bytes, entries_bytes, behind_header, HasTable, ObjectSpells}
-use Rattle.aout_object.specs.Checks.{data_at, text_relocs_at, data_relocs_at, entries_at, table_at, part, reloc_pieces, text_relocs_part, data_relocs_part, entries_part, is_absent}
-use Rattle.aout_object.specs.Decoding.{fault_or, relocs_in, contents_in, parts_fault, table_fault, trailing_fault, places_fault, relocs_fault, entries_fault, records_fault, header_in, fault_behind, file_fault}
-use Rattle.aout_object.proofs.FaultLemmas.{none-fault_unless, none-fault_or, none-entries_fault, table-passes}
+use Rattle.aout_object.specs.Checks.{data_at, text_relocs_at, data_relocs_at, entries_at, table_at, part, reloc_pieces, text_relocs_part, data_relocs_part, entries_part, is_absent, place_checks}
+use Rattle.aout_object.specs.Decoding.{relocs_in, contents_in, relocs_fault, entries_fault, records_fault, header_in, fault_behind, file_fault}
+use Rattle.aout_object.proofs.FaultLemmas.{none-fault_or, none-entries_fault, table-passes}
 use Rattle.aout_object.proofs.PlaceLemmas.{part-here, drop-part}
 use Rattle.aout_object.proofs.RecordLemmas.{length-flat_map_each, chunks-flat_map, length-reloc_bytes, relocs-written, length-entry_bytes, entries-written}
 
@@ -172,13 +173,11 @@ module _ (o : Contents) (bytes : List ℕ) (are_bytes : IsBytes bytes) (spells :
   table_stands (inr own) = inr (subst (HasOwnLength big) (sym strings_behind) own)
 
   -- its sizes pass
-  sizes_pass : places_fault h bytes ≡ None
+  sizes_pass : first_fault (place_checks h bytes) ≡ None
   sizes_pass =
       let size = length_is in
       let there : table_at h ≤ length bytes = omega (arith, size) in
-      let tables = table-passes h bytes there (table_stands spells.fits.table) in
-      none-fault_or (parts_fault h bytes) (fault_or (table_fault h bytes) (trailing_fault h bytes)) (none-fault_unless _ TRUNCATED (length bytes) (le-leb (table_at h) (length bytes) there))
-      (none-fault_or (table_fault h bytes) (trailing_fault h bytes) tables.0 tables.1)
+      first_fault-AllHold (place_checks h bytes) (le-leb (table_at h) (length bytes) there, table-passes h bytes there (table_stands spells.fits.table))
 
   -- its relocations and entries pass
   records_pass : records_fault h bytes ≡ None
@@ -195,4 +194,4 @@ module _ (o : Contents) (bytes : List ℕ) (are_bytes : IsBytes bytes) (spells :
 
   -- it has no fault
   pub spelled-passes : file_fault bytes ≡ None
-  spelled-passes = ap (λ (r : Result Header Fault). fault_behind r bytes) spelled-header ∙ none-fault_or (places_fault h bytes) (records_fault h bytes) sizes_pass records_pass
+  spelled-passes = ap (λ (r : Result Header Fault). fault_behind r bytes) spelled-header ∙ none-fault_or (first_fault (place_checks h bytes)) (records_fault h bytes) sizes_pass records_pass

@@ -5,7 +5,7 @@ use Rattle.std.specs.Prelude.{Option, Some, None, Err, if◌then◌else◌, ◌/
 use Rattle.st_base.specs.ByteOrder.{is_big}
 use Rattle.st_base.specs.Faults.{Check, check, fault_at, first_fault, unless}
 use Rattle.st_base.specs.declared.fault.Fault.{Fault}
-use Rattle.st_base.specs.declared.fault.TheConstants.{TRUNCATED, TRAILING, LENGTH, KIND, INSIDE, PAST, NO_END}
+use Rattle.st_base.specs.declared.fault.TheConstants.{TRUNCATED, KIND, INSIDE, PAST, NO_END}
 use Rattle.st_base.specs.declared.sizes.TheConstants.{HEADER_SIZE, RELOC_SIZE}
 use Rattle.aout_layout.specs.declared.header.Header.{Header}
 use Rattle.aout_layout.specs.Headers.{header_checks, read}
@@ -15,8 +15,8 @@ use Rattle.reloc.specs.Relocs.{reloc_checks, reloc_of}
 use Rattle.reloc.specs.Relocs.{read as read_reloc}
 use Rattle.strtab.specs.StringTable.{is_zero}
 use Rattle.aout_object.specs.Objects.{is_accepted_kind}
-use Rattle.aout_object.specs.Checks.{table_at, reloc_pieces, text_relocs_part, data_relocs_part, entries_part, strings_part, is_absent, word_in, table_checks, at_place, relocs_checks, entry_checks, entries_checks, checks_behind, header_at_front, file_checks, FileFault}
-use Rattle.aout_object.specs.Decoding.{fault_or, fault_unless, parts_fault, table_fault, trailing_fault, places_fault, fault_of, relocs_fault, end_fault, entry_fault, entries_fault, all_relocs_fault, records_fault, fault_behind, file_fault}
+use Rattle.aout_object.specs.Checks.{reloc_pieces, text_relocs_part, data_relocs_part, entries_part, strings_part, at_place, relocs_checks, entry_checks, entries_checks, place_checks, record_checks, header_at_front, file_checks, FileFault}
+use Rattle.aout_object.specs.Decoding.{fault_or, fault_unless, fault_of, relocs_fault, end_fault, entry_fault, entries_fault, all_relocs_fault, records_fault, fault_behind, file_fault}
 
 -- ---- one check behind another
 
@@ -32,35 +32,10 @@ first_fault-append [] back = refl
 first_fault-append (c ∷ front) back =
     before c.holds c.fault (first_fault (front ++ back)) (first_fault front) (first_fault back) (first_fault-append front back)
 
--- the fault of a check before others
-first_fault-check : (test : Bool) (number place : ℕ) (later : Option Fault) → (if test then later else Some (fault_at number place)) ≡ fault_or (fault_unless test number place) later
-first_fault-check true number place later = refl
-first_fault-check false number place later = refl
-
 -- which fault is first does not hang on how they are taken together
 fault_or-assoc : (first second third : Option Fault) → fault_or (fault_or first second) third ≡ fault_or first (fault_or second third)
 fault_or-assoc None second third = refl
 fault_or-assoc (Some fault) second third = refl
-
--- ---- the string table
-
--- its four checks, by what the tests say
-table_by : (absent word long whole last : Bool) (place size end : ℕ)
-    → first_fault (if absent then [] else check word TRUNCATED size ∷ check long LENGTH place ∷ check whole TRUNCATED size ∷ check last TRAILING end ∷ [])
-    ≡ fault_or (if absent then None else fault_or (fault_unless word TRUNCATED size) (fault_or (fault_unless long LENGTH place) (fault_unless whole TRUNCATED size)))
-    (if absent then None else fault_unless last TRAILING end)
-table_by true word long whole last place size end = refl
-table_by false false long whole last place size end = refl
-table_by false true false whole last place size end = refl
-table_by false true true false last place size end = refl
-table_by false true true true last place size end = refl
-
--- the string table
-table_checks-fault : (h : Header) (bytes : List ℕ) → first_fault (table_checks h bytes) ≡ fault_or (table_fault h bytes) (trailing_fault h bytes)
-table_checks-fault h bytes =
-    table_by (is_absent h bytes) (nat_le (table_at h + 4) (length bytes)) (nat_le 4 (word_in h bytes))
-    (nat_le (table_at h + word_in h bytes) (length bytes)) (nat_le (length bytes) (table_at h + word_in h bytes))
-    (table_at h) (length bytes) (table_at h + word_in h bytes)
 
 -- ---- relocations
 
@@ -125,7 +100,7 @@ module _ (h : Header) (bytes : List ℕ) where
   name_checks = entries_checks (strings_part h bytes) 0 (entries_in (is_big h.order) (entries_part h bytes))
 
   -- the records of a file
-  records_fault-is : first_fault (text_checks ++ (data_checks ++ name_checks)) ≡ records_fault h bytes
+  records_fault-is : first_fault (record_checks h bytes) ≡ records_fault h bytes
   records_fault-is =
       first_fault-append text_checks (data_checks ++ name_checks)
       ∙ ap (fault_or (first_fault text_checks)) (first_fault-append data_checks name_checks)
@@ -136,18 +111,11 @@ module _ (h : Header) (bytes : List ℕ) where
       ∙ ap (fault_or (all_relocs_fault h bytes)) (entries_checks-fault (strings_part h bytes) 0 (entries_in (is_big h.order) (entries_part h bytes)))
 
   -- what stands behind its header
-  checks_behind-fault : first_fault (checks_behind h bytes) ≡ fault_or (places_fault h bytes) (records_fault h bytes)
-  checks_behind-fault =
-      first_fault-check (nat_le (table_at h) (length bytes)) TRUNCATED (length bytes) _
-      ∙ ap (fault_or (parts_fault h bytes)) (
-      first_fault-append (table_checks h bytes) (text_checks ++ (data_checks ++ name_checks))
-      ∙ ap (λ (f : Option Fault). fault_or f (first_fault (text_checks ++ (data_checks ++ name_checks)))) (table_checks-fault h bytes)
-      ∙ ap (fault_or (fault_or (table_fault h bytes) (trailing_fault h bytes))) records_fault-is
-      )
-      ∙ sym (fault_or-assoc (parts_fault h bytes) (fault_or (table_fault h bytes) (trailing_fault h bytes)) (records_fault h bytes))
+  behind-fault : first_fault (place_checks h bytes ++ record_checks h bytes) ≡ fault_or (first_fault (place_checks h bytes)) (records_fault h bytes)
+  behind-fault = first_fault-append (place_checks h bytes) (record_checks h bytes) ∙ ap (fault_or (first_fault (place_checks h bytes))) records_fault-is
 
 -- the fault of a header that was read by its checks, else the later one
-header_by : (found : Option Fault) (h : Header) (bytes : List ℕ) (later : Option Fault) → later ≡ fault_or (places_fault h bytes) (records_fault h bytes)
+header_by : (found : Option Fault) (h : Header) (bytes : List ℕ) (later : Option Fault) → later ≡ fault_or (first_fault (place_checks h bytes)) (records_fault h bytes)
     → fault_or found later ≡ fault_behind (unless found h) bytes
 header_by None h bytes later is = is
 header_by (Some fault) h bytes later is = refl
@@ -163,8 +131,8 @@ pub file_checks-fault : (bytes : List ℕ) → first_fault (file_checks bytes) �
 file_checks-fault bytes =
     let front : List ℕ = take HEADER_SIZE bytes in
     size_by (nat_le HEADER_SIZE (length bytes)) (length bytes) front bytes _
-    (first_fault-append (header_checks front) (checks_behind (header_at_front bytes) bytes)
-    ∙ header_by (first_fault (header_checks front)) (header_at_front bytes) bytes _ (checks_behind-fault (header_at_front bytes) bytes))
+    (first_fault-append (header_checks front) (place_checks (header_at_front bytes) bytes ++ record_checks (header_at_front bytes) bytes)
+    ∙ header_by (first_fault (header_checks front)) (header_at_front bytes) bytes _ (behind-fault (header_at_front bytes) bytes))
 
 -- so a fault by the steps is that of the file
 pub FileFault-steps : (bytes : List ℕ) (fault : Fault) → file_fault bytes ≡ Some fault → FileFault bytes fault

@@ -112,24 +112,26 @@ entries_checks strings place (e ∷ entries) = entry_checks strings place e ++ e
 
 -- ---- all checks
 
--- behind the header: all parts before the string table are there, then the string table, the relocations of text and of data, and the entries
-abbrev pub checks_behind : Header → List ℕ → List Check
-checks_behind h bytes =
-    check (nat_le (table_at h) (length bytes)) TRUNCATED (length bytes)
-    ∷ (table_checks h bytes
-    ++ (relocs_checks (is_big h.order) 0 (reloc_pieces (text_relocs_part h bytes))
+-- all parts before the string table are there, and then the string table
+abbrev pub place_checks : Header → List ℕ → List Check
+place_checks h bytes = check (nat_le (table_at h) (length bytes)) TRUNCATED (length bytes) ∷ table_checks h bytes
+
+-- the relocations of text, those of data, numbered on from them, and the entries
+abbrev pub record_checks : Header → List ℕ → List Check
+record_checks h bytes =
+    relocs_checks (is_big h.order) 0 (reloc_pieces (text_relocs_part h bytes))
     ++ (relocs_checks (is_big h.order) (h.text_relocs / RELOC_SIZE) (reloc_pieces (data_relocs_part h bytes))
-    ++ entries_checks (strings_part h bytes) 0 (entries_in (is_big h.order) (entries_part h bytes)))))
+    ++ entries_checks (strings_part h bytes) 0 (entries_in (is_big h.order) (entries_part h bytes)))
 
 -- the first bytes of a file, as its header; another, where they are none
 abbrev pub header_at_front : List ℕ → Header
 header_at_front bytes = header_of (has_magic true (take HEADER_SIZE bytes)) (take HEADER_SIZE bytes)
 
--- the header is there, then its own checks, and then those behind it
+-- the header is there, then its own checks, and then those of what its sizes say
 abbrev pub file_checks : List ℕ → List Check
 file_checks bytes =
     check (nat_le HEADER_SIZE (length bytes)) TRUNCATED (length bytes)
-    ∷ (header_checks (take HEADER_SIZE bytes) ++ checks_behind (header_at_front bytes) bytes)
+    ∷ (header_checks (take HEADER_SIZE bytes) ++ (place_checks (header_at_front bytes) bytes ++ record_checks (header_at_front bytes) bytes))
 
 -- this is the fault of this file: that of the first check which it fails
 pub record FileFault (bytes : List ℕ) (fault : Fault) : Type 0 where

@@ -3,11 +3,11 @@
 -- of a file in their order.
 use Rattle.std.specs.Prelude.{◌≡◌, ◌≢◌, ℕ, ◌+◌, ◌-◌, ◌/◌, ◌<◌, ◌≤◌, ◌^◌, ◌==◌, nat_lt, nat_le, if◌then◌else◌, Bool, List, [], ◌∷◌, length, get_or, map, take, drop, position, Option, Some, None, Result, Ok, Err}
 use Rattle.st_base.specs.ByteOrder.{is_big}
-use Rattle.st_base.specs.Faults.{fault_at}
+use Rattle.st_base.specs.Faults.{fault_at, first_fault}
 use Rattle.st_base.specs.declared.fault.Fault.{Fault}
 use Rattle.st_base.specs.declared.fault.Refused.{Refused}
 use Rattle.st_base.specs.declared.fault.Refused.TheVariants as refused
-use Rattle.st_base.specs.declared.fault.TheConstants.{TRUNCATED, TRAILING, LENGTH, KIND, INSIDE, PAST, NO_END}
+use Rattle.st_base.specs.declared.fault.TheConstants.{TRUNCATED, KIND, INSIDE, PAST, NO_END}
 use Rattle.st_base.specs.declared.sizes.TheConstants.{HEADER_SIZE, RELOC_SIZE}
 use Rattle.aout_layout.specs.declared.header.Header.{Header}
 use Rattle.aout_layout.specs.Headers.{read}
@@ -19,7 +19,7 @@ use Rattle.reloc.specs.Relocs.{read as read_reloc}
 use Rattle.strtab.specs.StringTable.{is_zero}
 use Rattle.aout_object.specs.declared.read.Places.{Places}
 use Rattle.aout_object.specs.Objects.{Contents, ObjectSpells, is_accepted_kind}
-use Rattle.aout_object.specs.Checks.{data_at, text_relocs_at, data_relocs_at, entries_at, table_at, part, reloc_pieces, text_relocs_part, data_relocs_part, entries_part, strings_part, is_absent, word_in, FileFault}
+use Rattle.aout_object.specs.Checks.{data_at, text_relocs_at, data_relocs_at, entries_at, table_at, part, reloc_pieces, text_relocs_part, data_relocs_part, entries_part, strings_part, place_checks, FileFault}
 
 -- ---- answers
 
@@ -88,28 +88,6 @@ fault_or (Some fault) later = Some fault
 abbrev pub fault_unless : Bool → ℕ → ℕ → Option Fault
 fault_unless test number place = if test then None else Some (fault_at number place)
 
--- all parts before the string table are there
-abbrev pub parts_fault : Header → List ℕ → Option Fault
-parts_fault h bytes = fault_unless (nat_le (table_at h) (length bytes)) TRUNCATED (length bytes)
-
--- the string table is absent where it may be; else its word is there, is at least 4, and the table is there whole
-abbrev pub table_fault : Header → List ℕ → Option Fault
-table_fault h bytes =
-    if is_absent h bytes then None
-    else fault_or (fault_unless (nat_le (table_at h + 4) (length bytes)) TRUNCATED (length bytes))
-    (fault_or (fault_unless (nat_le 4 (word_in h bytes)) LENGTH (table_at h))
-    (fault_unless (nat_le (table_at h + word_in h bytes) (length bytes)) TRUNCATED (length bytes)))
-
--- nothing follows the string table
-abbrev pub trailing_fault : Header → List ℕ → Option Fault
-trailing_fault h bytes =
-    if is_absent h bytes then None
-    else fault_unless (nat_le (length bytes) (table_at h + word_in h bytes)) TRAILING (table_at h + word_in h bytes)
-
--- the three checks of the sizes of a file
-abbrev pub places_fault : Header → List ℕ → Option Fault
-places_fault h bytes = fault_or (parts_fault h bytes) (fault_or (table_fault h bytes) (trailing_fault h bytes))
-
 -- the fault of a reading, at the place of what was read
 abbrev pub fault_of : {A : Type 0} → ℕ → Result A Fault → Option Fault
 fault_of place (Ok value) = None
@@ -168,7 +146,7 @@ header_in bytes = if nat_le HEADER_SIZE (length bytes) then read (take HEADER_SI
 -- the fault of a file whose header was read so: that of the header, else the first behind it
 abbrev pub fault_behind : Result Header Fault → List ℕ → Option Fault
 fault_behind (Err fault) bytes = Some fault
-fault_behind (Ok h) bytes = fault_or (places_fault h bytes) (records_fault h bytes)
+fault_behind (Ok h) bytes = fault_or (first_fault (place_checks h bytes)) (records_fault h bytes)
 
 -- the fault of a file: that of the first check which it fails
 abbrev pub file_fault : List ℕ → Option Fault

@@ -1,7 +1,7 @@
 ghost use Rattle.std.specs.Prelude.{◌≡◌, ◌+◌, ◌≤◌, ◌<◌, ◌^◌, length, drop, IfOk, IsErrOf, Ok, Err, None};
 ghost use Rattle.st_base.specs.ByteOrder.{is_big};
 ghost use Rattle.st_base.specs.declared.fault.Fault.{Fault};
-ghost use Rattle.st_base.specs.Faults.{unless};
+ghost use Rattle.st_base.specs.Faults.{checked, first_fault, unless};
 ghost use Rattle.aout_object.specs.Objects.{Contents, ObjectSpells, is_accepted_kind as the_accepted_kind};
 ghost use Rattle.aout_object.specs.Checks as checks;
 ghost use Rattle.aout_object.specs.Checks.{FileFault};
@@ -59,7 +59,7 @@ fn places_of(header: &Header) -> Places
 // The checks of the sizes of a file: all parts are there, then the string table, and nothing behind it.
 fn check_places(header: &Header, places: &Places, bytes: &[u8]) -> Result<(), Fault>
     requires { spec.ArePlaces header.now places.now }
-    ensures { result ≡ unless (spec.places_fault header.now bytes.now) tt }
+    ensures { result ≡ checked (checks.place_checks header.now bytes.now) tt }
 {
     let size = bytes.len();
     let table = places.table;
@@ -242,7 +242,7 @@ fn read_object(
 ) -> Result<Object, Refused>
     requires places { spec.ArePlaces header.now places.now }
     requires header { spec.header_in bytes.now ≡ Ok header.now }
-    requires sizes { spec.places_fault header.now bytes.now ≡ None }
+    requires sizes { first_fault (checks.place_checks header.now bytes.now) ≡ None }
     ensures { Answers result (spec.records_fault header.now bytes.now) (spec.contents_in header.now bytes.now) }
 {
     let parts = read_parts(alloc, header, places, bytes)?;
