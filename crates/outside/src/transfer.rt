@@ -1,4 +1,4 @@
-ghost use Rattle.std.specs.Prelude.{◌≡◌, ◌+◌, ◌<◌, length, vec_len, IfOk};
+ghost use Rattle.std.specs.Prelude.{◌≡◌, ◌+◌, ◌<◌, length, vec_len, IfOk, IfErr};
 ghost use Rattle.std.specs.Bool.{OnTrue, OnFalse};
 ghost use Rattle.std.specs.Io.KnownBytes.{Appends};
 ghost use Rattle.outside.specs.Transfer as spec;
@@ -6,7 +6,7 @@ ghost use Rattle.outside.specs.Transfer.{ReadsOnce, ReadsWhole, TakesAtMost, App
 
 use crate::files::Loaded;
 use st_base::Text;
-use std::alloc::{AllocError, Global};
+use std::alloc::Global;
 use std::io::{Read, Write};
 
 /// How many bytes a reader is asked for at once: a large file takes few reads.
@@ -42,11 +42,15 @@ fn stopped(why: Stop) -> Loaded
     }
 }
 
-/// So many bytes to read into.
-fn room_of(alloc: Global, size: usize) -> Result<Vec<u8>, AllocError>
-    ensures { IfOk result (λ room. vec_len room ≡ size) }
+/// So many bytes to read into, or out of memory.
+fn room_of(alloc: Global, size: usize) -> Result<Vec<u8>, Stop>
+    ensures room { IfOk result (λ room. vec_len room ≡ size) }
+    ensures memory { IfErr result (λ why. why ≡ Stop.Memory) }
 {
-    vec![in alloc; 0u8; size]
+    match vec![in alloc; 0u8; size] {
+        Ok(room) => Ok(room),
+        Err(_) => Err(Stop::Memory),
+    }
 }
 
 /// Reads once into `room`, and appends what was read to a text.
@@ -85,6 +89,20 @@ fn read_by<R: Read>(alloc: Global, from: &mut R, most: u64, room: &mut [u8]) -> 
     Loaded::Long
 }
 
+/// As `read_whole`, into this room; where there is none, why there is none is the answer.
+fn read_into<R: Read>(alloc: Global, from: &mut R, most: u64, room: Result<Vec<u8>, Stop>) -> Loaded
+    requires room { IfOk room (λ room. 0 < vec_len room) }
+    requires memory { IfErr room (λ why. why ≡ Stop.Memory) }
+    ensures none { IfErr room (λ why. result ≡ spec.stopped why) }
+    ensures read { ReadsWhole (R.remaining from.old) (R.remaining from.new) most result }
+    ensures asked { TakesAtMost (most + 1) (R.remaining from.old) (R.remaining from.new) }
+{
+    match room {
+        Ok(mut room) => read_by(alloc, from, most, &mut room),
+        Err(why) => stopped(why),
+    }
+}
+
 /// What a reader has left, if it has at most `most` bytes. It is asked for at most `most` + 1 bytes in all,
 /// and a read that gives nothing is the end. `Failed` is a read that failed, before which the reader gave at
 /// most `most` bytes; `Memory` is out of memory.
@@ -92,10 +110,7 @@ pub fn read_whole<R: Read>(alloc: Global, from: &mut R, most: u64) -> Loaded
     ensures read { ReadsWhole (R.remaining from.old) (R.remaining from.new) most result }
     ensures asked { TakesAtMost (most + 1) (R.remaining from.old) (R.remaining from.new) }
 {
-    match room_of(alloc, PIECE) {
-        Ok(mut room) => read_by(alloc, from, most, &mut room),
-        Err(_) => Loaded::Memory,
-    }
+    read_into(alloc, from, most, room_of(alloc, PIECE))
 }
 
 /// Writes all bytes, and tells whether it could. A writer that takes nothing of a piece fails.
