@@ -17,3 +17,6 @@ mod Spread
 mod Renamed
 mod Marks
 mod ShapeLaws
+pub mod WalkLemmas
+pub mod NumberLemmas
+mod OpeningLemmas

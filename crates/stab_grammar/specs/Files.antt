@@ -1,7 +1,9 @@
 -- The files of the pairs `(file,number)` in a symbol, the symbol's shape, in which the digits of these files are left out, and the
 -- symbol with other files. Two units that include one header file give it different files, so its symbols have equal shapes there.
 -- After "The stabs debug format", on include files; that each is a fold over the type is this project's own.
-use Rattle.std.specs.Prelude.{◌≡◌, ℕ, List, [], ◌∷◌, ◌++◌, decimal, flat_map, slice_get, unwrap_or}
+use Rattle.std.specs.Prelude.{◌≡◌, ℕ, List, [], ◌∷◌, ◌++◌, decimal, flat_map, slice_get, unwrap_or, Result, OnOk}
+use Rattle.st_base.specs.declared.fault.Memory.{Memory}
+use Rattle.stab_grammar.specs.declared.files.PairFiles.{PairFiles}
 use Rattle.stab_grammar.specs.declared.tree.Num.{Num}
 use Rattle.stab_grammar.specs.declared.tree.Num.TheVariants.{Plain, Pair}
 use Rattle.stab_grammar.specs.declared.tree.Field.{Field, roll-Field}
@@ -11,6 +13,7 @@ use Rattle.stab_grammar.specs.declared.tree.TypeTree.TheVariants.{Ref, Def, Poin
 use Rattle.stab_grammar.specs.declared.tree.TypeTree.TheFolds.{fold-TypeTree, fold-Field}
 use Rattle.stab_grammar.specs.declared.tree.Symbol.{Symbol}
 use Rattle.stab_grammar.specs.Spelling.{step, field_step, letters}
+use Rattle.stab_grammar.specs.Walks.{all_numbers}
 
 -- ---- the files, in printed order
 
@@ -19,43 +22,17 @@ abbrev pub file_in : Num → List ℕ
 file_in (Plain n) = []
 file_in (Pair f n) = f ∷ []
 
--- those of a field are those of its type
-abbrev pub field_files : Field-F (List ℕ) (List ℕ) → List ℕ
-field_files f = f.tree
-
--- as they are
-abbrev pub all_files : List ℕ → List ℕ
-all_files files = files
-
--- one level of a type, from the files in the types and fields inside
-abbrev pub files_step : TypeTree-F (List ℕ) (List ℕ) → List ℕ
-files_step (TypeTree-F.Ref n) = file_in n
-files_step (TypeTree-F.Def n t) = file_in n ++ t
-files_step (TypeTree-F.Pointer t) = t
-files_step (TypeTree-F.Function t) = t
-files_step (TypeTree-F.Const t) = t
-files_step (TypeTree-F.Volatile t) = t
-files_step (TypeTree-F.Range t low high) = t
-files_step (TypeTree-F.Array i low high t) = i ++ t
-files_step (TypeTree-F.Struct size fields) = flat_map all_files fields
-files_step (TypeTree-F.Union size fields) = flat_map all_files fields
-files_step (TypeTree-F.Enum choices) = []
-files_step (TypeTree-F.Cross tag name) = []
-files_step (TypeTree-F.Sized bits t) = t
-files_step (TypeTree-F.Builtin n) = []
-files_step (TypeTree-F.Real a b c) = []
-
 -- the files of the pairs in a type
 abbrev pub files_in : TypeTree → List ℕ
-files_in = fold-TypeTree (List ℕ) (List ℕ) files_step field_files
-
--- and in a field
-abbrev pub files_in_field : Field → List ℕ
-files_in_field = fold-Field (List ℕ) (List ℕ) files_step field_files
+files_in t = flat_map file_in (all_numbers t)
 
 -- and in a symbol
 abbrev pub files_of : Symbol → List ℕ
 files_of s = files_in s.tree
+
+-- a visit puts the file of the number at the end
+abbrev pub PutsFile : PairFiles → Num → PairFiles → Result (Unit {0}) Memory → Type 0
+PutsFile old num new result = OnOk result (new.files ≡ old.files ++ file_in num)
 
 -- ---- the shape
 

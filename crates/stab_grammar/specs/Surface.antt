@@ -1,46 +1,21 @@
--- The numbers on the surface of a type: those met from left to right without going into the definition behind a number; and
--- the type as it is shown in a listing, where each of them is `#` and the place of its key. Both are this project's own.
-use Rattle.std.specs.Prelude.{ℕ, Bool, ◌&&◌, ◌==◌, List, [], ◌∷◌, ◌++◌, decimal, unwrap_or, position, flat_map}
+-- The keys of the numbers on the surface of a type: of those met from left to right without going into the definition behind a
+-- number; and the type as it is shown in a listing, where each of them is `#` and the place of its key. Both are this project's own.
+use Rattle.std.specs.Prelude.{ℕ, Bool, ◌&&◌, ◌==◌, List, [], ◌∷◌, ◌++◌, decimal, unwrap_or, position, map}
 use Rattle.stab_grammar.specs.declared.tree.Num.{Num}
 use Rattle.stab_grammar.specs.declared.tree.Key.{Key}
 use Rattle.stab_grammar.specs.declared.tree.Field.{Field}
 use Rattle.stab_grammar.specs.declared.tree.TypeTree.{TypeTree}
-use Rattle.stab_grammar.specs.declared.tree.TypeTree.TheOpen.{TypeTree-F, Field-F}
+use Rattle.stab_grammar.specs.declared.tree.TypeTree.TheOpen.{TypeTree-F}
 use Rattle.stab_grammar.specs.declared.tree.TypeTree.TheFolds.{fold-TypeTree, fold-Field}
 use Rattle.stab_grammar.specs.Spelling.{step, field_step}
 use Rattle.stab_grammar.specs.Keys.{key_of}
+use Rattle.stab_grammar.specs.Walks.{surface_numbers}
 
 -- ---- the keys on the surface
 
--- those of a field are those of its type
-abbrev pub field_surface : Field-F (List Key) (List Key) → List Key
-field_surface f = f.tree
-
--- as they are
-abbrev pub all_keys : List Key → List Key
-all_keys keys = keys
-
--- one level of a type, from the keys of the types and fields inside
-abbrev pub surface_step : TypeTree-F (List Key) (List Key) → List Key
-surface_step (TypeTree-F.Ref n) = key_of n ∷ []
-surface_step (TypeTree-F.Def n t) = key_of n ∷ []
-surface_step (TypeTree-F.Pointer t) = t
-surface_step (TypeTree-F.Function t) = t
-surface_step (TypeTree-F.Const t) = t
-surface_step (TypeTree-F.Volatile t) = t
-surface_step (TypeTree-F.Range t low high) = t
-surface_step (TypeTree-F.Array i low high t) = i ++ t
-surface_step (TypeTree-F.Struct size fields) = flat_map all_keys fields
-surface_step (TypeTree-F.Union size fields) = flat_map all_keys fields
-surface_step (TypeTree-F.Enum choices) = []
-surface_step (TypeTree-F.Cross tag name) = []
-surface_step (TypeTree-F.Sized bits t) = t
-surface_step (TypeTree-F.Builtin n) = []
-surface_step (TypeTree-F.Real a b c) = []
-
 -- the keys of the numbers on the surface of a type, from left to right
 abbrev pub surface_of : TypeTree → List Key
-surface_of = fold-TypeTree (List Key) (List Key) surface_step field_surface
+surface_of t = map key_of (surface_numbers t)
 
 -- ---- a type with its places
 

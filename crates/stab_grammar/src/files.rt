@@ -1,4 +1,4 @@
-ghost use Rattle.std.specs.Prelude.{◌≡◌, ◌++◌, ◌∷◌, ◌↔◌, [], List, ℕ, decimal, map, flat_map, IfOk, OnOk};
+ghost use Rattle.std.specs.Prelude.{◌≡◌, ◌++◌, ◌∷◌, ◌↔◌, [], List, ℕ, decimal, map, IfOk, OnOk};
 ghost use Rattle.readers.specs.Spelling.{ended};
 ghost use Rattle.stab_grammar.specs.declared.tree.Symbol.{Symbol};
 ghost use Rattle.stab_grammar.specs.Spelling.{same};
@@ -11,6 +11,7 @@ use crate::printing::{
     put_numeral_and,
 };
 use crate::tree::{Choice, Field, Num, Numeral, Symbol, TypeTree};
+use crate::walk::{NumberVisitor, visit_numbers};
 use st_base::{Boxed as Box, List, Memory, Text};
 use std::alloc::Global;
 
@@ -19,58 +20,24 @@ const NO_FILE: u32 = 65536;
 
 // ---- the files, in printed order
 
-fn put_file(num: &Num, out: &mut List<u32>) -> Result<(), Memory>
-    ensures { OnOk result (out.new ≡ out.old ++ spec.file_in num.now) }
-{
-    match num {
-        Num::Plain(_) => Ok(()),
-        Num::Pair(file, _) => out.push(*file),
-    }
+// The files of the pairs that were visited.
+#[derive(Drop)]
+struct PairFiles {
+    files: List<u32>,
 }
 
-#[cycle(files)]
-fn put_field_files(field: &Field, out: &mut List<u32>) -> Result<(), Memory>
-    ensures { OnOk result (out.new ≡ out.old ++ spec.files_in_field field.now) }
-{
-    put_files(&field.tree, out)
-}
+impl NumberVisitor for PairFiles {
+    ghost use Rattle.stab_grammar.specs.Files.{PutsFile};
 
-#[cycle(files)]
-fn put_fields_files(fields: &[Field], out: &mut List<u32>) -> Result<(), Memory>
-    ensures { OnOk result (out.new ≡ out.old ++ flat_map spec.all_files (map spec.files_in_field fields.now)) }
-{
-    for field in fields {
-        put_field_files(field, out)?;
-    }
-    Ok(())
-}
+    type Stop = Memory;
 
-#[cycle(files)]
-fn put_files(tree: &TypeTree, out: &mut List<u32>) -> Result<(), Memory>
-    ensures { OnOk result (out.new ≡ out.old ++ spec.files_in tree.now) }
-{
-    match tree {
-        TypeTree::Ref(num) => put_file(num, out),
-        TypeTree::Def(num, body) => {
-            put_file(num, out)?;
-            put_files(body.get(), out)
+    ghost visits = { PutsFile };
+
+    fn visit(&mut self, num: Num) -> Result<(), Memory> {
+        match num {
+            Num::Plain(_) => Ok(()),
+            Num::Pair(file, _) => self.files.push(file),
         }
-        TypeTree::Pointer(inner) => put_files(inner.get(), out),
-        TypeTree::Function(inner) => put_files(inner.get(), out),
-        TypeTree::Const(inner) => put_files(inner.get(), out),
-        TypeTree::Volatile(inner) => put_files(inner.get(), out),
-        TypeTree::Range(inner, _, _) => put_files(inner.get(), out),
-        TypeTree::Array(index, _, _, item) => {
-            put_files(index.get(), out)?;
-            put_files(item.get(), out)
-        }
-        TypeTree::Struct(_, fields) => put_fields_files(fields.items(), out),
-        TypeTree::Union(_, fields) => put_fields_files(fields.items(), out),
-        TypeTree::Sized(_, inner) => put_files(inner.get(), out),
-        TypeTree::Enum(_) => Ok(()),
-        TypeTree::Cross(_, _) => Ok(()),
-        TypeTree::Builtin(_) => Ok(()),
-        TypeTree::Real(_, _, _) => Ok(()),
     }
 }
 
@@ -78,8 +45,11 @@ fn put_files(tree: &TypeTree, out: &mut List<u32>) -> Result<(), Memory>
 pub fn numbers(alloc: Global, symbol: &Symbol) -> Result<List<u32>, Memory>
     ensures { IfOk result (λ files. files ≡ files_of symbol.now) }
 {
-    let mut files = List::new(alloc);
-    put_files(&symbol.tree, &mut files)?;
+    let mut visited = PairFiles {
+        files: List::new(alloc),
+    };
+    visit_numbers(&symbol.tree, &mut visited)?;
+    let PairFiles { files } = visited;
     Ok(files)
 }
 
