@@ -20,3 +20,4 @@ mod ShapeLaws
 pub mod WalkLemmas
 pub mod NumberLemmas
 mod OpeningLemmas
+mod PlacedLemmas

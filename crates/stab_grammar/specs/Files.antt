@@ -1,7 +1,7 @@
 -- The files of the pairs `(file,number)` in a symbol, the symbol's shape, in which the digits of these files are left out, and the
 -- symbol with other files. Two units that include one header file give it different files, so its symbols have equal shapes there.
 -- After "The stabs debug format", on include files; that each is a fold over the type is this project's own.
-use Rattle.std.specs.Prelude.{◌≡◌, ℕ, List, [], ◌∷◌, ◌++◌, decimal, flat_map, slice_get, unwrap_or, Result, OnOk}
+use Rattle.std.specs.Prelude.{◌≡◌, ℕ, false, List, [], ◌∷◌, ◌++◌, decimal, flat_map, slice_get, unwrap_or, Result, OnOk}
 use Rattle.st_base.specs.declared.fault.Memory.{Memory}
 use Rattle.stab_grammar.specs.declared.files.PairFiles.{PairFiles}
 use Rattle.stab_grammar.specs.declared.tree.Num.{Num}
@@ -12,7 +12,7 @@ use Rattle.stab_grammar.specs.declared.tree.TypeTree.TheOpen.{TypeTree-F, Field-
 use Rattle.stab_grammar.specs.declared.tree.TypeTree.TheVariants.{Ref, Def, Pointer, Function, Const, Volatile, Range, Array, Struct, Union, Enum, Cross, Sized, Builtin, Real}
 use Rattle.stab_grammar.specs.declared.tree.TypeTree.TheFolds.{fold-TypeTree, fold-Field}
 use Rattle.stab_grammar.specs.declared.tree.Symbol.{Symbol}
-use Rattle.stab_grammar.specs.Spelling.{step, field_step, letters}
+use Rattle.stab_grammar.specs.Printing.{level_text, type_text, field_text, symbol_text}
 use Rattle.stab_grammar.specs.Walks.{all_numbers}
 
 -- ---- the files, in printed order
@@ -41,23 +41,21 @@ abbrev pub num_shape : Num → List ℕ
 num_shape (Plain n) = decimal n
 num_shape (Pair f n) = 40 ∷ (44 ∷ (decimal n ++ 41 ∷ []))
 
--- one level of a type; all but the numbers is as it is spelled
+-- one level of a type
 abbrev pub shape_step : TypeTree-F (List ℕ) (List ℕ) → List ℕ
-shape_step (TypeTree-F.Ref n) = num_shape n
-shape_step (TypeTree-F.Def n t) = num_shape n ++ 61 ∷ t
-shape_step other = step other
+shape_step = level_text num_shape false
 
 -- the shape of a type: its spelling without the digits of the files
 abbrev pub tree_shape : TypeTree → List ℕ
-tree_shape = fold-TypeTree (List ℕ) (List ℕ) shape_step field_step
+tree_shape = type_text num_shape false
 
 -- the shape of a field
 abbrev pub field_shape : Field → List ℕ
-field_shape = fold-Field (List ℕ) (List ℕ) shape_step field_step
+field_shape = field_text num_shape false
 
 -- the shape of a symbol
 abbrev pub shape_of : Symbol → List ℕ
-shape_of s = (s.name ++ 58 ∷ []) ++ (letters s.descriptor ++ tree_shape s.tree)
+shape_of = symbol_text num_shape false
 
 -- ---- other files
 

@@ -3,9 +3,9 @@ pub mod Depth
 pub mod Shape
 pub mod Keys
 pub mod Walks
+pub mod Printing
 pub mod Surface
 pub mod Definitions
-pub mod Printing
 pub mod StringFaults
 pub mod Grammar
 pub mod Files

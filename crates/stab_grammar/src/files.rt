@@ -1,15 +1,10 @@
-ghost use Rattle.std.specs.Prelude.{◌≡◌, ◌++◌, ◌∷◌, ◌↔◌, [], List, ℕ, decimal, map, IfOk, OnOk};
-ghost use Rattle.readers.specs.Spelling.{ended};
+ghost use Rattle.std.specs.Prelude.{◌≡◌, ◌↔◌, List, ℕ, map, IfOk};
 ghost use Rattle.stab_grammar.specs.declared.tree.Symbol.{Symbol};
-ghost use Rattle.stab_grammar.specs.Spelling.{same};
 ghost use Rattle.stab_grammar.specs.Shape.{ShapedSymbol};
 ghost use Rattle.stab_grammar.specs.Files as spec;
 ghost use Rattle.stab_grammar.specs.Files.{files_of, shape_of, renumbered, DifferInFiles, new_file};
 
-use crate::printing::{
-    letters_of, print_type, put_byte, put_bytes, put_name_and, put_number, put_number_and,
-    put_numeral_and,
-};
+use crate::printing::{NumberWriter, put_bytes, put_number, put_number_and, put_symbol};
 use crate::tree::{Choice, Field, Num, Numeral, Symbol, TypeTree};
 use crate::walk::{NumberVisitor, visit_numbers};
 use st_base::{Boxed as Box, List, Memory, Text};
@@ -55,105 +50,30 @@ pub fn numbers(alloc: Global, symbol: &Symbol) -> Result<List<u32>, Memory>
 
 // ---- the shape
 
-// The number, without the digits of its file.
-fn put_num_shape(num: &Num, out: &mut Text) -> Result<(), Memory>
-    ensures { OnOk result (out.new ≡ out.old ++ spec.num_shape num.now) }
-{
-    match num {
-        Num::Plain(number) => put_number(*number, out),
-        Num::Pair(_, number) => {
-            put_bytes(b"(,", out)?;
-            put_number_and(*number, b')', out)
+// Numbers without the digits of their files, `n` or `(,number)`.
+#[derive(Drop)]
+struct WithoutFiles;
+
+impl NumberWriter for WithoutFiles {
+    ghost use Rattle.std.specs.Prelude.{false};
+    ghost use Rattle.stab_grammar.specs.Files.{num_shape};
+
+    ghost number = { λ _. num_shape };
+
+    ghost hides = { λ _. false };
+
+    fn put(&self, num: &Num, out: &mut Text) -> Result<(), Memory> {
+        match num {
+            Num::Plain(number) => put_number(*number, out),
+            Num::Pair(_, number) => {
+                put_bytes(b"(,", out)?;
+                put_number_and(*number, b')', out)
+            }
         }
     }
-}
 
-#[cycle(shapes)]
-fn put_field_shape(field: &Field, out: &mut Text) -> Result<(), Memory>
-    ensures { OnOk result (out.new ≡ out.old ++ spec.field_shape field.now) }
-{
-    put_name_and(&field.name, b':', out)?;
-    put_shape_and(&field.tree, b',', out)?;
-    put_number_and(field.bit, b',', out)?;
-    put_number_and(field.bits, b';', out)
-}
-
-#[cycle(shapes)]
-fn put_field_shapes(fields: &[Field], out: &mut Text) -> Result<(), Memory>
-    ensures { OnOk result (out.new ≡ out.old ++ ended same (59 ∷ []) (map spec.field_shape fields.now)) }
-{
-    for field in fields {
-        put_field_shape(field, out)?;
-    }
-    put_byte(b';', out)
-}
-
-// A structure or union.
-#[cycle(shapes)]
-fn put_members_shape(letter: u8, size: u32, fields: &[Field], out: &mut Text) -> Result<(), Memory>
-    ensures { OnOk result (out.new ≡ out.old ++ letter ∷ (decimal size ++ ended same (59 ∷ []) (map spec.field_shape fields.now))) }
-{
-    put_byte(letter, out)?;
-    put_number(size, out)?;
-    put_field_shapes(fields, out)
-}
-
-// The shape of a type behind a letter.
-#[cycle(shapes)]
-fn put_shape_behind(letter: u8, tree: &TypeTree, out: &mut Text) -> Result<(), Memory>
-    ensures { OnOk result (out.new ≡ out.old ++ letter ∷ spec.tree_shape tree.now) }
-{
-    put_byte(letter, out)?;
-    put_shape(tree, out)
-}
-
-#[cycle(shapes)]
-fn put_shape_and(tree: &TypeTree, end: u8, out: &mut Text) -> Result<(), Memory>
-    ensures { OnOk result (out.new ≡ out.old ++ (spec.tree_shape tree.now ++ end ∷ [])) }
-{
-    put_shape(tree, out)?;
-    put_byte(end, out)
-}
-
-// A type that holds no type is its spelling.
-#[cycle(shapes)]
-fn put_shape(tree: &TypeTree, out: &mut Text) -> Result<(), Memory>
-    ensures { OnOk result (out.new ≡ out.old ++ spec.tree_shape tree.now) }
-{
-    match tree {
-        TypeTree::Ref(num) => put_num_shape(num, out),
-        TypeTree::Def(num, inner) => {
-            put_num_shape(num, out)?;
-            put_shape_behind(b'=', inner.get(), out)
-        }
-        TypeTree::Pointer(inner) => put_shape_behind(b'*', inner.get(), out),
-        TypeTree::Function(inner) => put_shape_behind(b'f', inner.get(), out),
-        TypeTree::Const(inner) => put_shape_behind(b'k', inner.get(), out),
-        TypeTree::Volatile(inner) => put_shape_behind(b'B', inner.get(), out),
-        TypeTree::Range(inner, low, high) => {
-            put_byte(b'r', out)?;
-            put_shape_and(inner.get(), b';', out)?;
-            put_numeral_and(low, b';', out)?;
-            put_numeral_and(high, b';', out)
-        }
-        TypeTree::Array(index, low, high, item) => {
-            put_bytes(b"ar", out)?;
-            put_shape_and(index.get(), b';', out)?;
-            put_numeral_and(low, b';', out)?;
-            put_numeral_and(high, b';', out)?;
-            put_shape(item.get(), out)
-        }
-        TypeTree::Struct(size, fields) => put_members_shape(b's', *size, fields.items(), out),
-        TypeTree::Union(size, fields) => put_members_shape(b'u', *size, fields.items(), out),
-        TypeTree::Sized(bits, inner) => {
-            put_bytes(b"@s", out)?;
-            put_number_and(*bits, b';', out)?;
-            put_shape(inner.get(), out)
-        }
-        TypeTree::Enum(_) => print_type(tree, out),
-        TypeTree::Cross(_, _) => print_type(tree, out),
-        TypeTree::Builtin(_) => print_type(tree, out),
-        TypeTree::Real(_, _, _) => print_type(tree, out),
+    fn hides_definitions(&self) -> bool {
+        false
     }
 }
 
@@ -162,9 +82,7 @@ pub fn shape(alloc: Global, symbol: &Symbol) -> Result<Text, Memory>
     ensures { IfOk result (λ t. t ≡ shape_of symbol.now) }
 {
     let mut out = Text::new(alloc);
-    put_name_and(&symbol.name, b':', &mut out)?;
-    put_bytes(letters_of(symbol.descriptor), &mut out)?;
-    put_shape(&symbol.tree, &mut out)?;
+    put_symbol(symbol, &WithoutFiles, &mut out)?;
     Ok(out)
 }
 

@@ -19,7 +19,7 @@ mod walk;
 pub use definitions::{DefinitionVisitor, StandsForTree, visit_definitions};
 pub use files::{numbers, renumber, shape, shape_laws};
 pub use keys::key_of;
-pub use placed::print_placed;
+pub use placed::{print_placed, print_placed_by};
 pub use printing::{letters_of, print, print_type};
 pub use read::{one_place, one_symbol, parse};
 pub use tree::{Choice, Descriptor, Field, Key, Num, Numeral, Symbol, Tag, TypeTree};
