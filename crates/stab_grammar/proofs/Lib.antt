@@ -21,3 +21,4 @@ pub mod WalkLemmas
 pub mod NumberLemmas
 mod OpeningLemmas
 mod PlacedLemmas
+mod Twice

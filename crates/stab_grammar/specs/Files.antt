@@ -91,9 +91,9 @@ module _ (change : ℕ → ℕ) where
   abbrev pub field_with : Field → Field
   field_with = fold-Field TypeTree Field with_step roll-Field
 
-  -- a symbol
-  abbrev pub symbol_with : Symbol → Symbol
-  symbol_with s = record { name = s.name; descriptor = s.descriptor; tree = tree_with s.tree }
+  -- a symbol, the file of each pair changed
+  abbrev pub with_files : Symbol → Symbol
+  with_files s = record { name = s.name; descriptor = s.descriptor; tree = tree_with s.tree }
 
 -- what stands for a file that a list of files doesn't have: it is greater than every file
 abbrev pub no_file : ℕ
@@ -105,7 +105,7 @@ new_file files file = unwrap_or (slice_get files file) no_file
 
 -- the symbol in which each file f is item f of the list
 abbrev pub renumbered : List ℕ → Symbol → Symbol
-renumbered files = symbol_with (new_file files)
+renumbered files = with_files (new_file files)
 
 -- ---- symbols that differ in files alone
 
@@ -115,4 +115,4 @@ file_0 f = 0
 
 -- two symbols differ at most in the files of pairs: with 0 for each file they are one
 abbrev pub DifferInFiles : Symbol → Symbol → Type 0
-DifferInFiles s t = symbol_with file_0 s ≡ symbol_with file_0 t
+DifferInFiles s t = with_files file_0 s ≡ with_files file_0 t

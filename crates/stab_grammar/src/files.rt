@@ -1,8 +1,8 @@
-ghost use Rattle.std.specs.Prelude.{◌≡◌, ◌↔◌, List, ℕ, map, IfOk};
+ghost use Rattle.std.specs.Prelude.{◌≡◌, ◌↔◌, ℕ, map, IfOk};
 ghost use Rattle.stab_grammar.specs.declared.tree.Symbol.{Symbol};
 ghost use Rattle.stab_grammar.specs.Shape.{ShapedSymbol};
 ghost use Rattle.stab_grammar.specs.Files as spec;
-ghost use Rattle.stab_grammar.specs.Files.{files_of, shape_of, renumbered, DifferInFiles, new_file};
+ghost use Rattle.stab_grammar.specs.Files.{files_of, shape_of, renumbered, with_files, file_0, DifferInFiles, new_file};
 
 use crate::printing::{NumberWriter, put_bytes, put_number, put_number_and, put_symbol};
 use crate::tree::{Choice, Field, Num, Numeral, Symbol, TypeTree};
@@ -227,11 +227,14 @@ pub fn renumber(alloc: Global, symbol: &Symbol, files: &List<u32>) -> Result<Sym
 
 // ---- laws
 
-/// Two shaped symbols have equal shapes exactly where they differ at most in the files of pairs; of one shape with the same
-/// files they are one symbol. Other files keep the shape, and stand in the order of the old ones.
+/// What the shape and the files tell of a symbol. Two shaped symbols have equal shapes exactly where they differ at most in the files
+/// of pairs. Any two symbols that differ at most there and have the same files are one. Other files, whatever function gives
+/// them, keep the shape and all but the files, and stand in the order of the old ones.
 pub fn shape_laws()
     ensures only_files { (s t : Symbol) → ShapedSymbol s → ShapedSymbol t → (shape_of s ≡ shape_of t) ↔ DifferInFiles s t }
+    ensures known { (s t : Symbol) → with_files file_0 s ≡ with_files file_0 t → files_of s ≡ files_of t → s ≡ t }
     ensures determined { (s t : Symbol) → ShapedSymbol s → ShapedSymbol t → shape_of s ≡ shape_of t → files_of s ≡ files_of t → s ≡ t }
-    ensures shape_kept { (files : List ℕ) (s : Symbol) → shape_of (renumbered files s) ≡ shape_of s }
-    ensures files_new { (files : List ℕ) (s : Symbol) → files_of (renumbered files s) ≡ map (new_file files) (files_of s) }
+    ensures again { (change : ℕ → ℕ) (s : Symbol) → with_files file_0 (with_files change s) ≡ with_files file_0 s }
+    ensures shape_kept { (change : ℕ → ℕ) (s : Symbol) → shape_of (with_files change s) ≡ shape_of s }
+    ensures files_new { (change : ℕ → ℕ) (s : Symbol) → files_of (with_files change s) ≡ map change (files_of s) }
 {}
