@@ -12,6 +12,7 @@ use Rattle.stab_grammar.specs.declared.tree.TypeTree.TheOpen.{TypeTree-F, Field-
 use Rattle.stab_grammar.specs.declared.tree.TypeTree.TheVariants.{Ref, Def, Pointer, Function, Const, Volatile, Range, Array, Struct, Union, Enum, Cross, Sized, Builtin, Real}
 use Rattle.stab_grammar.specs.declared.tree.TypeTree.TheFolds.{fold-TypeTree, fold-Field}
 use Rattle.stab_grammar.specs.declared.tree.Symbol.{Symbol}
+use Rattle.stab_grammar.specs.declared.limits.TheConstants.{NO_FILE}
 use Rattle.stab_grammar.specs.Printing.{level_text, type_text, field_text, symbol_text}
 use Rattle.stab_grammar.specs.Walks.{all_numbers}
 
@@ -95,13 +96,9 @@ module _ (change : ℕ → ℕ) where
   abbrev pub with_files : Symbol → Symbol
   with_files s = record { name = s.name; descriptor = s.descriptor; tree = tree_with s.tree }
 
--- what stands for a file that a list of files doesn't have: it is greater than every file
-abbrev pub no_file : ℕ
-no_file = 65536
-
--- item `file` of the list
+-- item `file` of the list, or what stands for no file
 abbrev pub new_file : List ℕ → ℕ → ℕ
-new_file files file = unwrap_or (slice_get files file) no_file
+new_file files file = unwrap_or (slice_get files file) NO_FILE
 
 -- the symbol in which each file f is item f of the list
 abbrev pub renumbered : List ℕ → Symbol → Symbol

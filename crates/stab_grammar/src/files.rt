@@ -4,14 +4,12 @@ ghost use Rattle.stab_grammar.specs.Shape.{ShapedSymbol};
 ghost use Rattle.stab_grammar.specs.Files as spec;
 ghost use Rattle.stab_grammar.specs.Files.{files_of, shape_of, renumbered, with_files, file_0, DifferInFiles, new_file};
 
+use crate::limits::NO_FILE;
 use crate::printing::{NumberWriter, put_bytes, put_number, put_number_and, put_symbol};
 use crate::tree::{Choice, Field, Num, Numeral, Symbol, TypeTree};
 use crate::walk::{NumberVisitor, visit_numbers};
 use st_base::{Boxed as Box, List, Memory, Text};
 use std::alloc::Global;
-
-/// Stands for a file that a list of files does not have; it is greater than every file.
-const NO_FILE: u32 = 65536;
 
 // ---- the files, in printed order
 

@@ -10,6 +10,7 @@ mod descriptors;
 mod files;
 mod grammar;
 mod keys;
+mod limits;
 mod placed;
 mod printing;
 mod read;
