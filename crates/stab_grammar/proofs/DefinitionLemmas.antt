@@ -6,7 +6,7 @@ use Rattle.stab_grammar.specs.declared.tree.TypeTree.{TypeTree}
 use Rattle.stab_grammar.specs.declared.tree.TypeTree.TheVariants.{Ref, Def, Pointer, Function, Const, Volatile, Range, Array, Struct, Union, Enum, Cross, Sized, Builtin, Real, rolls-Ref, rolls-Def, rolls-Pointer, rolls-Function, rolls-Const, rolls-Volatile, rolls-Range, rolls-Array, rolls-Struct, rolls-Union, rolls-Enum, rolls-Cross, rolls-Sized, rolls-Builtin, rolls-Real}
 use Rattle.stab_grammar.specs.declared.tree.TypeTree.TheOpen.{TypeTree-F, Field-F}
 use Rattle.stab_grammar.specs.declared.tree.TypeTree.TheViews.{roll-TypeTree}
-use Rattle.stab_grammar.specs.declared.tree.TypeTree.TheFolds.{fold-Field, fold-roll-TypeTree, fold-roll-Field, map-TypeTree, map-Field, ind-TypeTree, ind-Field}
+use Rattle.stab_grammar.specs.declared.tree.TypeTree.TheFolds.{fold-roll-TypeTree, fold-roll-Field, map-TypeTree, map-Field, ind-TypeTree, ind-Field}
 use Rattle.stab_grammar.specs.declared.tree.Field.{Field, roll-Field}
 use Rattle.stab_grammar.specs.declared.tree.Num.{Num}
 use Rattle.stab_grammar.specs.declared.tree.Numeral.{Numeral}

@@ -15,7 +15,7 @@ mod WithFiles
 mod PutBack
 mod Spread
 mod Renamed
-mod Marks
+mod SpreadShapes
 mod ShapeLaws
 pub mod WalkLemmas
 pub mod NumberLemmas

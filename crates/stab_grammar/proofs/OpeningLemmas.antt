@@ -1,5 +1,5 @@
 -- A definition and a structure or union, opened one level: the definitions in what stands inside, and that it is smaller.
-use Rattle.std.proofs.Common.{◌≡◌, ℕ, ◌+◌, ◌<◌, List, ◌∷◌, map, sym, ap, subst, ◌∙◌, refl, arith}
+use Rattle.std.proofs.Common.{◌≡◌, ℕ, ◌+◌, ◌<◌, List, ◌∷◌, map, sym, ap, ◌∙◌, arith}
 use Rattle.std.specs.Prelude.{sum, flat_map}
 use Rattle.stab_grammar.specs.declared.tree.Num.{Num}
 use Rattle.stab_grammar.specs.declared.tree.Key.{Key}
@@ -9,9 +9,9 @@ use Rattle.stab_grammar.specs.declared.tree.TypeTree.TheVariants.{Def, Struct, U
 use Rattle.stab_grammar.specs.declared.tree.TypeTree.TheOpen.{TypeTree-F}
 use Rattle.stab_grammar.specs.declared.tree.TypeTree.TheFolds.{fold-roll-TypeTree}
 use Rattle.stab_grammar.specs.Keys.{key_of}
-use Rattle.stab_grammar.specs.Definitions.{Definition, definitions_in, definitions_in_field}
+use Rattle.stab_grammar.specs.Definitions.{definitions_in, definitions_in_field}
 use Rattle.stab_grammar.specs.Opening.{size_step, field_size, tree_size, size_of_field}
-use Rattle.stab_grammar.proofs.DefinitionLemmas.{defined, definitions-Def, definitions-Struct, definitions-Union}
+use Rattle.stab_grammar.proofs.DefinitionLemmas.{definitions-Def, definitions-Struct, definitions-Union}
 
 size-Def : (n : Num) (t : TypeTree) → tree_size (Def n t) ≡ 1 + tree_size t
 size-Def n t = ap tree_size (sym (rolls-Def n t)) ∙ fold-roll-TypeTree ℕ ℕ size_step field_size (TypeTree-F.Def n t)

@@ -1,7 +1,7 @@
 -- Two ways to write numbers that agree give one text of a type; so places in a map and places in a list do.
-use Rattle.std.proofs.Common.{◌≡◌, ℕ, Bool, true, false, List, [], ◌∷◌, ◌++◌, map, refl, sym, ap, ◌∙◌}
-use Rattle.std.specs.Prelude.{decimal, position, unwrap_or, Option, Result, OnOk}
-use Rattle.std.specs.BTreeMap.{BTreeMap, get}
+use Rattle.std.proofs.Common.{◌≡◌, ℕ, Bool, true, List, [], ◌∷◌, ◌++◌, map, refl, sym, ap, ◌∙◌}
+use Rattle.std.specs.Prelude.{decimal, unwrap_or, Option, Result, OnOk}
+use Rattle.std.specs.BTreeMap.{BTreeMap}
 use Rattle.readers.specs.Spelling.{ended}
 use Rattle.stab_grammar.specs.declared.tree.Num.{Num}
 use Rattle.stab_grammar.specs.declared.tree.Key.{Key}
@@ -13,7 +13,7 @@ use Rattle.stab_grammar.specs.declared.tree.TypeTree.TheFolds.{fold-roll-TypeTre
 use Rattle.stab_grammar.specs.Keys.{key_of}
 use Rattle.stab_grammar.specs.Spelling.{numeral, same, field_step}
 use Rattle.stab_grammar.specs.Printing.{defined_text, level_text, type_text, field_text}
-use Rattle.stab_grammar.specs.Surface.{same_key, place_text, mapped_text, placed, ArePlaces, key_order}
+use Rattle.stab_grammar.specs.Surface.{place_text, mapped_text, placed, ArePlaces}
 use Rattle.stab_grammar.proofs.Levels as levels
 
 module _ (first second : Num → List ℕ) (hides : Bool) (agree : (n : Num) → first n ≡ second n) where

@@ -13,7 +13,7 @@ use Rattle.stab_grammar.proofs.PutBack.{known as tree_known}
 use Rattle.stab_grammar.proofs.Twice.{at_once}
 use Rattle.stab_grammar.proofs.Spread.{spread, gather, gathered}
 use Rattle.stab_grammar.proofs.Renamed.{renamed, names_back}
-use Rattle.stab_grammar.proofs.Marks.{Marks, marks_both, marks_end, marks_name, marks, stack_same}
+use Rattle.stab_grammar.proofs.SpreadShapes.{Spreads, spreads_both, spreads_end, spreads_name, spreads, stack_same}
 
 -- ---- other files
 
@@ -73,20 +73,20 @@ descriptor_stays descriptors.Tag t e = refl
 descriptor_stays descriptors.TagTypedef t e = refl
 
 -- so with the letters of a descriptor
-marks_letters : (s : Symbol) → Marks (descriptor_ok s.descriptor s.tree) (letters s.descriptor) (letters s.descriptor) (descriptor_ok s.descriptor (renamed spread s.tree))
-marks_letters s = record { says = λ e. (letters_stay s.descriptor, descriptor_stays s.descriptor s.tree e) }
+spreads_letters : (s : Symbol) → Spreads (descriptor_ok s.descriptor s.tree) (letters s.descriptor) (letters s.descriptor) (descriptor_ok s.descriptor (renamed spread s.tree))
+spreads_letters s = record { says = λ e. (letters_stay s.descriptor, descriptor_stays s.descriptor s.tree e) }
 
 -- its spelling is the shape, spread
-symbol_marks : (s : Symbol) → ShapedSymbol s → (spread (shape_of s) ≡ print_symbol (renamed_symbol spread s)) × ShapedSymbol (renamed_symbol spread s)
-symbol_marks s = (marks_both (marks_end 58 refl (marks_name refused refl s.name)) (marks_both (marks_letters s) (marks s.tree))).says
+symbol_spreads : (s : Symbol) → ShapedSymbol s → (spread (shape_of s) ≡ print_symbol (renamed_symbol spread s)) × ShapedSymbol (renamed_symbol spread s)
+symbol_spreads s = (spreads_both (spreads_end 58 refl (spreads_name refused refl s.name)) (spreads_both (spreads_letters s) (spreads s.tree))).says
 
 -- ---- equal shapes
 
 -- symbols of one shape differ in files alone
 differ : (s t : Symbol) → ShapedSymbol s → ShapedSymbol t → shape_of s ≡ shape_of t → DifferInFiles s t
 differ s t f g e =
-    let a = symbol_marks s f in
-    let b = symbol_marks t g in
+    let a = symbol_spreads s f in
+    let b = symbol_spreads t g in
     let one : renamed_symbol spread s ≡ renamed_symbol spread t = one_symbol _ _ a.1 b.1 (sym a.0 ∙ ap spread e ∙ b.0) in
     sym (symbol_back s) ∙ ap (renamed_symbol gather) one ∙ symbol_back t
 

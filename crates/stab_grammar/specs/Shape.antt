@@ -1,6 +1,6 @@
 -- Which symbols and types have a spelling. The limits are this project's own; the bytes that end a name are those of
 -- "The stabs debug format".
-use Rattle.std.specs.Prelude.{◌≡◌, ℕ, Bool, true, false, not, ◌&&◌, ◌||◌, ◌==◌, nat_le, List, [], ◌∷◌, length}
+use Rattle.std.specs.Prelude.{◌≡◌, ℕ, Bool, true, false, not, ◌&&◌, ◌||◌, ◌==◌, nat_le, List, [], ◌∷◌}
 use Rattle.readers.specs.Spelling.{all_of}
 use Rattle.readers.specs.Words.{is_digit, is_digits, is_name, not_in_name}
 use Rattle.stab_grammar.specs.declared.limits.TheConstants.{GREATEST_FILE, GREATEST_NUMBER, MOST_DIGITS}

@@ -1,6 +1,6 @@
 -- The keys of the numbers on the surface of a type: of those met from left to right without going into the definition behind a
 -- number; and the type as it is shown in a listing, where each of them is `#` and the place of its key. Both are this project's own.
-use Rattle.std.specs.Prelude.{◌≡◌, ℕ, Bool, true, ◌&&◌, ◌==◌, List, [], ◌∷◌, ◌++◌, decimal, unwrap_or, position, map}
+use Rattle.std.specs.Prelude.{◌≡◌, ℕ, Bool, true, ◌&&◌, ◌==◌, List, ◌∷◌, decimal, unwrap_or, position, map}
 use Rattle.std.specs.declared.cmp.Ordering.{Ordering}
 use Rattle.std.specs.Ordering.{ordering_then, nat_cmp}
 use Rattle.std.specs.BTreeMap.{BTreeMap, get}

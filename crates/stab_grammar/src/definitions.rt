@@ -10,6 +10,7 @@ use crate::tree::{Field, Key, TypeTree};
 
 /// What stands for a type: a reference to it.
 pub trait StandsForTree: Copy {
+    // the type itself
     ghost tree: { Self → Tree };
 }
 
@@ -19,8 +20,8 @@ impl<'a> StandsForTree for &'a TypeTree {
     ghost tree = { tree_of };
 }
 
-/// What is done at each definition in a type, until it stops. It may keep the bodies that it visits, which are lent for as long as
-/// the type: `T` is the reference.
+/// What is done at each definition in a type, until it stops. It may keep the bodies that it visits: `T` is `&'a TypeTree`, a
+/// reference for as long as the whole type is lent.
 pub trait DefinitionVisitor<T: StandsForTree> {
     /// With what it stops.
     type Stop;
@@ -35,6 +36,10 @@ pub trait DefinitionVisitor<T: StandsForTree> {
 
 // ---- a type, opened one level
 
+// The walk goes down a type one level at a time. It calls itself for the first of two parts alone, and goes on with the second, so that
+// many fields take no deep recursion. It is written over any kind of part: a bound that names a lifetime can't be proved of a
+// function that calls itself. `Rest` is the only kind.
+
 /// What stands directly inside a part of a type, from left to right.
 enum Opened<T, P> {
     Nothing,
@@ -44,18 +49,23 @@ enum Opened<T, P> {
     Definition(Key, T, P),
 }
 
-/// A part of a type.
+/// A part of a type that can be opened.
 trait Part: Copy {
+    /// The type that a part is.
     type Tree: StandsForTree;
 
+    // the definitions in a part, outermost first and from left to right
     ghost definitions: { Self → List Definition };
 
+    // what grows less with each level
     ghost size: { Self → ℕ };
 
+    /// What stands directly inside.
     fn open(self) -> Opened<Self::Tree, Self>
         ensures { Opens Self.Tree.tree definitions size self result };
 }
 
+// Visits the definitions in a part until the visitor stops.
 fn walk<P: Part, V: DefinitionVisitor<P::Tree>>(part: P, visitor: &mut V) -> Result<(), V::Stop>
     ensures { Visited V.visits visitor.old (P.definitions part) visitor.new result }
 {

@@ -17,6 +17,8 @@ pub trait NumberVisitor {
         ensures { visits self.old num self.new result };
 }
 
+// ---- the walk; a flag says whether the numbers behind an `=` are entered
+
 #[cycle(numbers)]
 fn walk_field<V: NumberVisitor>(
     field: &Field,

@@ -1,6 +1,6 @@
-use Rattle.std.proofs.Common.{◌≡◌, ap, sym, ◌∙◌, ⊎_elim}
+use Rattle.std.proofs.Common.{ap, sym, ◌∙◌, ⊎_elim}
 use Rattle.stab_grammar.specs.declared.tree.TypeTree.{TypeTree}
-use Rattle.stab_grammar.specs.declared.tree.TypeTree.TheVariants.{Def, Struct, Union}
+use Rattle.stab_grammar.specs.declared.tree.TypeTree.TheVariants.{Def}
 use Rattle.stab_grammar.proofs.OpeningLemmas.{opens-Def, opens-Struct, opens-Union}
 use Rattle.stab_grammar.proofs.definitions.open_tree.Goals as goal
 

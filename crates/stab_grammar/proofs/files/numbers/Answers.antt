@@ -1,4 +1,4 @@
-use Rattle.std.proofs.Common.{◌≡◌, ℕ, ◌++◌, List, ap, ◌∙◌}
+use Rattle.std.proofs.Common.{ℕ, ◌++◌, List, ap, ◌∙◌}
 use Rattle.stab_grammar.specs.declared.files.PairFiles.{PairFiles}
 use Rattle.stab_grammar.specs.Files.{file_in, files_of, PutsFile}
 use Rattle.stab_grammar.proofs.WalkLemmas.{visited_puts}
