@@ -15,5 +15,10 @@ mod WithFiles
 mod PutBack
 mod Spread
 mod Renamed
-mod Marks
+mod SpreadShapes
 mod ShapeLaws
+pub mod WalkLemmas
+pub mod NumberLemmas
+mod OpeningLemmas
+mod PlacedLemmas
+mod Twice
