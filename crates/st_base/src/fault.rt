@@ -111,7 +111,7 @@ pub const AMBIGUOUS: u16 = 101;
 /// The file is lawful, but this program does not read files of its kind yet. Place and within are 0.
 pub const UNBUILT: u16 = 200;
 
-/// Want of memory.
+/// Out of memory.
 #[derive(Clone, Copy, Debug, Drop, PartialEq, Eq)]
 pub struct Memory;
 
@@ -149,7 +149,7 @@ impl Fault {
     }
 }
 
-/// Why a call refuses: a fault of its input, or want of memory.
+/// Why a call refuses: a fault of its input, or out of memory.
 #[derive(Clone, Copy, Debug, Drop, PartialEq, Eq)]
 pub enum Refused {
     At(Fault),

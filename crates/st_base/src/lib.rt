@@ -1,4 +1,4 @@
-//! What every other crate stands on: growing texts and lists, want of memory and faults, numbers in
+//! What every other crate stands on: growing texts and lists, faults and out of memory, numbers in
 //! either byte order at a place of a record, the shown form of a text, a counter of steps that only contracts
 //! see, and the sizes, limits and numbers of faults that several crates name.
 //!
