@@ -1,5 +1,5 @@
 -- What reading a whole string answers.
-use Rattle.std.proofs.Common.{◌≡◌, ℕ, ◌≤◌, ◌⊎◌, List, length, Result, Ok, Err, refl, sym, ap, ◌∙◌, arith}
+use Rattle.std.proofs.Common.{◌≡◌, ℕ, ◌≤◌, ◌⊎◌, inl, inr, List, length, Result, Ok, Err, refl, sym, ap, ◌∙◌, arith}
 use Rattle.std.specs.Prelude.{IfOk}
 use Rattle.st_base.specs.declared.fault.Fault.{Fault}
 use Rattle.readers.specs.declared.stop.Stop.{Stop}
@@ -77,16 +77,16 @@ by_first text v h f is = answers.by_first GREATEST_DEPTH symbol_at symbol_form e
 pub one_place : (text : List ℕ) (f g : TextFault) → HasStringFault text f → HasStringFault text g → place_of f ≡ place_of g → f ≡ g
 one_place text f g h k e = firsts.one_place GREATEST_DEPTH symbol_at symbol_form ends_type symbol_laws text f g h k e
 
--- without a fault there is a symbol
-pub some : (text : List ℕ) → ((f : Fault) → IsStringFault text f → ⊥) → (s : Symbol) × IsSpelling s text
+-- there is a symbol, or a fault that is told
+pub some : (text : List ℕ) → ((s : Symbol) × IsSpelling s text) ⊎ ((f : Fault) × IsStringFault text f)
 unfolding whole_symbol
-some text fine = by_answer (whole_symbol text) refl
+some text = by_answer (whole_symbol text) refl
   where
-    by_answer : (v : Result Symbol Stop) → whole_symbol text ≡ v → (s : Symbol) × IsSpelling s text
-    by_answer (Ok s) e = (s, to_spelling s text (firsts.found GREATEST_DEPTH symbol_at symbol_form ends_type symbol_laws text s e))
+    by_answer : (v : Result Symbol Stop) → whole_symbol text ≡ v → ((s : Symbol) × IsSpelling s text) ⊎ ((f : Fault) × IsStringFault text f)
+    by_answer (Ok s) e = inl (s, to_spelling s text (firsts.found GREATEST_DEPTH symbol_at symbol_form ends_type symbol_laws text s e))
     by_answer (Err d) e =
         let g = firsts.first GREATEST_DEPTH symbol_at symbol_form ends_type symbol_laws text d e in
-        absurd (fine (fault_of (placed (length text) d)) (record { first = placed (length text) d; is_first = g; told = refl }))
+        inr (fault_of (placed (length text) d), record { first = placed (length text) d; is_first = g; told = refl })
 
 -- and only one
 pub one : (text : List ℕ) (s t : Symbol) → IsSpelling s text → IsSpelling t text → s ≡ t

@@ -77,7 +77,7 @@ pub fn one_place()
 
 /// A string either spells exactly one symbol, or has exactly one fault that is told.
 pub fn one_symbol()
-    ensures some { (text : List ℕ) → ((f : Fault) → IsStringFault text f → ⊥) → (s : Symbol) × IsSpelling s text }
+    ensures some { (text : List ℕ) → ((s : Symbol) × IsSpelling s text) ⊎ ((f : Fault) × IsStringFault text f) }
     ensures one { (text : List ℕ) (s t : Symbol) → IsSpelling s text → IsSpelling t text → s ≡ t }
     ensures one_fault { (text : List ℕ) (f g : Fault) → IsStringFault text f → IsStringFault text g → f ≡ g }
     ensures not_both { (text : List ℕ) (s : Symbol) (f : Fault) → IsSpelling s text → IsStringFault text f → ⊥ }
