@@ -21,10 +21,10 @@ use Rattle.stab_grammar.specs.declared.tree.TypeTree.TheViews.{roll-TypeTree}
 use Rattle.stab_grammar.specs.declared.tree.TypeTree.TheFolds.{fold-roll-TypeTree, fold-roll-Field, map-TypeTree}
 use Rattle.stab_grammar.specs.Spelling.{num, numeral, tag_letter, choice, same, step, field_step, print_of, print_field}
 use Rattle.stab_grammar.specs.Shape.{refused, refused_item, num_ok, numeral_ok, value_ok, choice_ok, begins_digit, begins_stack, field_ok, left, first_fine, ok_step, ok, ok_field}
-use Rattle.stab_grammar.specs.Files.{num_shape, shape_step, tree_shape, field_shape, num_with, file_0}
+use Rattle.stab_grammar.specs.Files.{num_shape, tree_shape, field_shape, num_with, file_0}
 use Rattle.stab_grammar.proofs.Levels as levels
 use Rattle.stab_grammar.proofs.Equations.{by_layer}
-use Rattle.stab_grammar.proofs.WithFiles.{joined}
+use Rattle.stab_grammar.proofs.WithFiles.{shape_step, joined}
 use Rattle.stab_grammar.proofs.Spread.{spread, spread-append, plain_byte, spread_digits, spread_decimal, all_spread}
 use Rattle.stab_grammar.proofs.Renamed.{renamed_choice, renamed, renamed_field, renamed_level, fold-renamed, fold-renamed-field}
 

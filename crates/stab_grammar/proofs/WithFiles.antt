@@ -1,6 +1,5 @@
--- A type with other files: its shape stays, its files are the changed ones in the same order, and with its own files put back in
--- order it is the type again.
-use Rattle.std.proofs.Common.{◌≡◌, ℕ, true, List, [], ◌∷◌, ◌++◌, map, refl, sym, ap, ◌∙◌}
+-- A type with other files: its shape stays, and its files are the changed ones in the same order.
+use Rattle.std.proofs.Common.{◌≡◌, ℕ, true, false, List, [], ◌∷◌, ◌++◌, map, refl, sym, ap, ◌∙◌}
 use Rattle.std.specs.Prelude.{decimal, flat_map}
 use Rattle.std.proofs.lemmas.List.{map-append}
 use Rattle.readers.specs.Spelling.{ended}
@@ -13,11 +12,16 @@ use Rattle.stab_grammar.specs.declared.tree.TypeTree.TheOpen.{TypeTree-F, Field-
 use Rattle.stab_grammar.specs.declared.tree.TypeTree.TheViews.{roll-TypeTree}
 use Rattle.stab_grammar.specs.declared.tree.TypeTree.TheFolds.{fold-TypeTree, fold-Field, fold-roll-TypeTree, fold-roll-Field, map-TypeTree, map-Field}
 use Rattle.stab_grammar.specs.Spelling.{numeral, same, field_step}
-use Rattle.stab_grammar.specs.Files.{file_in, files_in, num_shape, shape_step, tree_shape, field_shape, num_with, with_step, tree_with, field_with}
+use Rattle.stab_grammar.specs.Printing.{level_text}
+use Rattle.stab_grammar.specs.Files.{file_in, files_in, num_shape, tree_shape, field_shape, num_with, with_step, tree_with, field_with}
 use Rattle.stab_grammar.specs.Walks.{all_of_them, field_numbers, numbers_step, numbers_in_field, all_numbers}
 use Rattle.stab_grammar.proofs.Levels as levels
 
 -- ---- one level
+
+-- one level of a shape
+abbrev pub shape_step : TypeTree-F (List ℕ) (List ℕ) → List ℕ
+shape_step = level_text num_shape false
 
 -- one level of a type with the file changed; all else stays
 abbrev pub changed : (ℕ → ℕ) → TypeTree-F TypeTree Field → TypeTree-F TypeTree Field

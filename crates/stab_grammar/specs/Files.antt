@@ -1,6 +1,6 @@
 -- The files of the pairs `(file,number)` in a symbol, the symbol's shape, in which the digits of these files are left out, and the
 -- symbol with other files. Two units that include one header file give it different files, so its symbols have equal shapes there.
--- After "The stabs debug format", on include files; that each is a fold over the type is this project's own.
+-- After "The stabs debug format", on include files; the shape is this project's own.
 use Rattle.std.specs.Prelude.{◌≡◌, ℕ, false, List, [], ◌∷◌, ◌++◌, decimal, flat_map, slice_get, unwrap_or, Result, OnOk}
 use Rattle.st_base.specs.declared.fault.Memory.{Memory}
 use Rattle.stab_grammar.specs.declared.files.PairFiles.{PairFiles}
@@ -13,7 +13,7 @@ use Rattle.stab_grammar.specs.declared.tree.TypeTree.TheVariants.{Ref, Def, Poin
 use Rattle.stab_grammar.specs.declared.tree.TypeTree.TheFolds.{fold-TypeTree, fold-Field}
 use Rattle.stab_grammar.specs.declared.tree.Symbol.{Symbol}
 use Rattle.stab_grammar.specs.declared.limits.TheConstants.{NO_FILE}
-use Rattle.stab_grammar.specs.Printing.{level_text, type_text, field_text, symbol_text}
+use Rattle.stab_grammar.specs.Printing.{type_text, field_text, symbol_text}
 use Rattle.stab_grammar.specs.Walks.{all_numbers}
 
 -- ---- the files, in printed order
@@ -41,10 +41,6 @@ PutsFile old num new result = OnOk result (new.files ≡ old.files ++ file_in nu
 abbrev pub num_shape : Num → List ℕ
 num_shape (Plain n) = decimal n
 num_shape (Pair f n) = 40 ∷ (44 ∷ (decimal n ++ 41 ∷ []))
-
--- one level of a type
-abbrev pub shape_step : TypeTree-F (List ℕ) (List ℕ) → List ℕ
-shape_step = level_text num_shape false
 
 -- the shape of a type: its spelling without the digits of the files
 abbrev pub tree_shape : TypeTree → List ℕ

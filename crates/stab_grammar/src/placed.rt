@@ -1,9 +1,8 @@
 ghost use Rattle.std.specs.Prelude.{◌≡◌, ◌++◌, ◌∷◌, List, true, decimal, OnOk, OnErr, All, Contains, position, unwrap_or};
 ghost use Rattle.std.specs.List.{IsDistinct};
 ghost use Rattle.stab_grammar.specs.declared.tree.Key.{Key as KeyValue};
-ghost use Rattle.stab_grammar.specs.Printing.{Grows};
-ghost use Rattle.stab_grammar.specs.Surface.{same_key, place_text, surface_of, placed, ArePlaces, mapped_text};
-ghost use Rattle.stab_grammar.specs.Printing.{type_text};
+ghost use Rattle.stab_grammar.specs.Printing.{Grows, type_text};
+ghost use Rattle.stab_grammar.specs.Surface.{same_key, surface_of, placed, ArePlaces, mapped_text};
 
 use crate::keys::key_of;
 use crate::printing::{NumberWriter, append_type, put_byte, put_bytes};
@@ -109,9 +108,9 @@ fn append_mapped(
     append_type(tree, &Mapped { places }, out)
 }
 
-/// Appends the text of a type as `print_placed` does in a listing of the keys whose places the map has: each list of keys of which
-/// these are the places gives this text. A look-up takes the time of one in the map, however long the listing is. Out of memory,
-/// `out` stays as it was.
+/// Appends the text of a type as `print_placed` does, with the places of the keys from a map: it is the text in a listing of any keys
+/// of which the map has the places. Each number costs one look-up in the map, however long the listing is. Out of memory, `out`
+/// stays as it was.
 pub fn print_placed_by(
     tree: &TypeTree,
     places: &BTreeMap<Key, usize>,
