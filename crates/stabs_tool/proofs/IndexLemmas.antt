@@ -1,23 +1,20 @@
--- An index of definitions: what is noted of the definitions in a type by its forms; and that noting all definitions of a unit,
--- one after another, gives the definition of each key.
-use Rattle.std.proofs.Common.{◌≡◌, ℕ, ◌+◌, ◌<◌, length, drop, get_or, Bool, true, false, List, [], ◌∷◌, ◌++◌, refl, sym, ap, ◌∙◌, ⊎_elim, cond, OnOk}
-use Rattle.std.specs.Prelude.{◌&&◌, not, Option, Some, None, Result, Ok, Err, flat_map}
+-- An index of definitions: noting all definitions of a unit, one after another, gives the definition of each key.
+use Rattle.std.proofs.Common.{◌≡◌, ℕ, ◌+◌, ◌<◌, length, drop, get_or, Bool, true, false, List, [], ◌∷◌, ◌++◌, refl, sym, ap, subst, ◌∙◌, ⊎_elim, cond, OnOk}
+use Rattle.std.specs.Prelude.{◌&&◌, not, Option, Some, None, Result, Ok, Err, flat_map, ⊤}
 use Rattle.std.specs.List.{find}
 use Rattle.std.specs.BTreeMap.{BTreeMap}
 use Rattle.std.specs.Borrow.{Bor}
 use Rattle.std.proofs.lemmas.List.{drop_more}
 use Rattle.stab_grammar.specs.declared.tree.Key.{Key}
-use Rattle.stab_grammar.specs.declared.tree.Num.{Num}
-use Rattle.stab_grammar.specs.declared.tree.Numeral.{Numeral}
 use Rattle.stab_grammar.specs.declared.tree.TypeTree.{TypeTree}
-use Rattle.stab_grammar.specs.declared.tree.TypeTree.TheVariants.{Def, Array}
-use Rattle.stab_grammar.specs.Definitions.{Definition, definitions_in, is_cross}
+use Rattle.stab_grammar.specs.Definitions.{Definition, is_cross}
+use Rattle.stab_grammar.specs.Walks.{Visited}
 use Rattle.stab_grammar.specs.Surface.{same_key}
-use Rattle.stab_grammar.proofs.DefinitionLemmas.{definitions-Def, definitions-Array}
+use Rattle.st_base.specs.declared.fault.Memory.{Memory}
 use Rattle.stabs_tool.specs.declared.types.unit.Unit.{Unit}
+use Rattle.stabs_tool.specs.declared.types.index.Noting.{Noting}
 use Rattle.stabs_tool.specs.Units.{definitions_of, definition_of, first_of, body_of, or_else, is_full, is_any}
-use Rattle.stabs_tool.specs.Searches.{defined}
-use Rattle.stabs_tool.specs.Indexes.{better, noted, noted_all, main_key, body_in, looked_up}
+use Rattle.stabs_tool.specs.Indexes.{better, noted, noted_all, main_key, body_in, looked_up, Notes}
 use Rattle.stabs_tool.proofs.KeyLemmas.{which, by_number}
 
 -- ---- noting is finding the first
@@ -82,21 +79,20 @@ noted-append : (key : Key) (known : Option TypeTree) (ds es : List Definition) �
 noted-append key known [] es = refl
 noted-append key known (d ∷ ds) es = noted-append key (noted key known d) ds es
 
--- a definition and then what is inside
-pub noted-Def : (key : Key) (before between after : Option TypeTree) (tree : TypeTree) (num : Num) (t body : TypeTree) → tree ≡ Def num t → body ≡ t
-    → between ≡ noted key before (defined num body) → after ≡ noted_all key between (definitions_in body) → after ≡ noted_all key before (definitions_in tree)
-noted-Def key before between after tree num t body e same first second =
-    second ∙ ap (λ (z : Option TypeTree). noted_all key z (definitions_in body)) first
-    ∙ ap (noted_all key before) (sym (definitions-Def num body) ∙ ap (λ (z : TypeTree). definitions_in (Def num z)) same ∙ ap definitions_in (sym e))
+-- what follows from what a call did follows where it did it
+pub on_ok : {A E P Q : Type 0} (r : Result A E) → OnOk r P → (P → Q) → OnOk r Q
+on_ok (Ok x) p f = f p
+on_ok (Err e) p f = tt
 
--- the index of an array and then its items
-pub noted-Array : (key : Key) (before between after : Option TypeTree) (tree i index : TypeTree) (low high : Numeral) (t item : TypeTree) → tree ≡ Array i low high t → index ≡ i → item ≡ t
-    → between ≡ noted_all key before (definitions_in index) → after ≡ noted_all key between (definitions_in item) → after ≡ noted_all key before (definitions_in tree)
-noted-Array key before between after tree i index low high t item e same same_item first second =
-    second ∙ ap (λ (z : Option TypeTree). noted_all key z (definitions_in item)) first ∙ sym (noted-append key before (definitions_in index) (definitions_in item))
-    ∙ ap (λ (z : TypeTree). noted_all key before (definitions_in z ++ definitions_in item)) same
-    ∙ ap (λ (z : TypeTree). noted_all key before (definitions_in i ++ definitions_in z)) same_item
-    ∙ ap (noted_all key before) (sym (definitions-Array i low high t) ∙ ap definitions_in (sym e))
+-- visiting definitions notes them one after another
+pub all_noted : (ds : List Definition) (old new : Noting) (result : Result ⊤ Memory) → Visited Notes old ds new result
+    → OnOk result ((n : ℕ) → body_in new.index n ≡ noted_all (main_key n) (body_in old.index n) ds)
+all_noted [] old new result v =
+    subst (λ (r : Result ⊤ Memory). OnOk r ((n : ℕ) → body_in new.index n ≡ noted_all (main_key n) (body_in old.index n) [])) (sym v.1) (λ n. ap (λ (s : Noting). body_in s.index n) v.0)
+all_noted (d ∷ ds) old new result v = ⊎_elim
+    (λ on. on_ok result (all_noted ds on.0 new result on.2) (λ says n. says n ∙ ap (λ (z : Option TypeTree). noted_all (main_key n) z ds) (on.1 n)))
+    (λ stop. subst (λ (r : Result ⊤ Memory). OnOk r ((n : ℕ) → body_in new.index n ≡ noted_all (main_key n) (body_in old.index n) (d ∷ ds))) (sym stop.1) tt)
+    v
 
 -- one item of a list more
 pub noted-behind : {A : Type 0} (definitions : A → List Definition) (key : Key) (before after : Option TypeTree) (xs : List A) (at : ℕ) (x : A) (r : Option TypeTree)
@@ -116,8 +112,3 @@ pub looked_up-definition : (index : BTreeMap ℕ (Bor TypeTree)) (unit : Unit) �
     → (key : Key) → looked_up index key ≡ definition_of unit key
 looked_up-definition index unit says =
     by_number (body_in index) (λ key. first_of key (definitions_of unit)) (λ n. says n ∙ noted-first (main_key n) (definitions_of unit))
-
--- what follows from what a call did follows where it did it
-pub on_ok : {A E P Q : Type 0} (r : Result A E) → OnOk r P → (P → Q) → OnOk r Q
-on_ok (Ok x) p f = f p
-on_ok (Err e) p f = tt

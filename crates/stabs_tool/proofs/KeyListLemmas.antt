@@ -1,19 +1,38 @@
--- Lists in which each key stands once: joining more keys to such a list gives the keys at their first places, the list stays
--- free of repeats, and it is the front of what comes of it.
-use Rattle.std.proofs.Common.{◌≡◌, Bool, true, false, List, [], ◌∷◌, ◌++◌, refl, sym, ap, subst, ◌∙◌, cond, ⊎_elim, append_assoc, append-nil}
-use Rattle.std.specs.Prelude.{not, ◌&&◌, ◌||◌, filter, Contains}
+-- Lists in which each key stands once: joining more keys to such a list puts the new ones behind it, and the list stays free of
+-- repeats.
+use Rattle.std.proofs.Common.{◌≡◌, ◌≤◌, length, arith, Bool, true, false, List, [], ◌∷◌, ◌++◌, refl, sym, ap, subst, ◌∙◌, cond, ◌⊎◌, inl, inr, ⊎_elim, append_assoc, append-nil}
+use Rattle.std.specs.Prelude.{◌||◌, Contains, Result, Ok, Err, OnOk, map}
 use Rattle.std.specs.Bool.{Decides}
 use Rattle.std.specs.List.{IsDistinct}
 use Rattle.std.proofs.lemmas.List.Folds.{list_any-append}
-use Rattle.std.proofs.lemmas.List.Elements.{filter_agree}
 use Rattle.std.proofs.lemmas.Map.Keys.{IsDistinct-push}
 use Rattle.std.proofs.lemmas.Map.Made.{is_member-Decides}
+use Rattle.st_base.specs.declared.fault.Memory.{Memory}
+use Rattle.stab_grammar.specs.declared.tree.Num.{Num}
 use Rattle.stab_grammar.specs.declared.tree.Key.{Key}
-use Rattle.stab_grammar.specs.Surface.{same_key}
-use Rattle.stabs_tool.specs.Listings.{is_other, firsts}
-use Rattle.stabs_tool.specs.KeyLists.{has, added, joined, key_order}
+use Rattle.stab_grammar.specs.Keys.{key_of}
+use Rattle.stab_grammar.specs.Walks.{Visited}
+use Rattle.stab_grammar.specs.Surface.{same_key, key_order}
+use Rattle.stabs_tool.specs.KeyLists.{has, added, joined, firsts, Adds}
 use Rattle.stabs_tool.proofs.KeyLemmas.{which, same_key-decides, same_key-laws, is_eq-keys}
 use Rattle.std.specs.BTreeMap.{is_at}
+
+-- ---- one test or another
+
+pub or_left : (a b : Bool) → a ≡ true → (a || b) ≡ true
+or_left a b e = ap (λ (c : Bool). c || b) e
+
+pub or_right : (a b : Bool) → b ≡ true → (a || b) ≡ true
+or_right true b e = refl
+or_right false b e = e
+
+pub either : (a b : Bool) → (a || b) ≡ true → (a ≡ true) ⊎ (b ≡ true)
+either true b e = inl e
+either false b e = inr e
+
+or_more : (a b c : Bool) → (b ≡ true → c ≡ true) → (a || b) ≡ true → (a || c) ≡ true
+or_more true b c more e = refl
+or_more false b c more e = more e
 
 -- ---- whether a list has a key
 
@@ -77,75 +96,65 @@ pub distinct-joined : (keys more : List Key) → IsDistinct same_key keys → Is
 distinct-joined keys [] apart = apart
 distinct-joined keys (new ∷ more) apart = distinct-joined (added keys new) more (distinct-added keys new apart)
 
--- ---- joining is keeping the keys at their first places
+-- ---- what is put behind the list
 
--- the key does not stand in the list
-abbrev pub lacks : List Key → Key → Bool
-lacks keys key = not (has keys key)
+-- those of more keys that are new, each once
+abbrev pub new_in : List Key → List Key → List Key
+new_in keys [] = []
+new_in keys (key ∷ more) = cond (has keys key) (new_in keys more) (key ∷ new_in (keys ++ key ∷ []) more)
 
-filter_step : {X : Type 0} (q : X → Bool) (b : Bool) (x : X) (ys zs : List X) → filter q ys ≡ zs → filter q (cond b (x ∷ ys) ys) ≡ cond (b && q x) (x ∷ zs) zs
-filter_step q true x ys zs e = ap (λ (ws : List _). cond (q x) (x ∷ ws) ws) e
-filter_step q false x ys zs e = e
+-- what is joined is the list, and behind it those that are new
+pub joined-new : (keys more : List Key) → joined keys more ≡ keys ++ new_in keys more
+joined-new keys [] = sym (append-nil keys)
+joined-new keys (key ∷ more) = ⊎_elim
+    (λ e. ap (λ (b : Bool). joined (cond b keys (keys ++ key ∷ [])) more) e ∙ joined-new keys more
+    ∙ sym (ap (λ (b : Bool). keys ++ cond b (new_in keys more) (key ∷ new_in (keys ++ key ∷ []) more)) e))
+    (λ e. ap (λ (b : Bool). joined (cond b keys (keys ++ key ∷ [])) more) e ∙ joined-new (keys ++ key ∷ []) more
+    ∙ append_assoc keys (key ∷ []) (new_in (keys ++ key ∷ []) more)
+    ∙ sym (ap (λ (b : Bool). keys ++ cond b (new_in keys more) (key ∷ new_in (keys ++ key ∷ []) more)) e))
+    (which (has keys key))
 
-filter-filter : {X : Type 0} (p q : X → Bool) (xs : List X) → filter q (filter p xs) ≡ filter (λ x. p x && q x) xs
-filter-filter p q [] = refl
-filter-filter p q (x ∷ xs) = filter_step q (p x) x (filter p xs) (filter (λ y. p y && q y) xs) (filter-filter p q xs)
-
-lacks_old : (keys : List Key) (old : Key) → has keys old ≡ true → (key : Key) → (is_other old key && lacks keys key) ≡ lacks keys key
-lacks_old keys old e key = ⊎_elim
-    (λ same. let here : has keys key ≡ true = ap (λ (k : Key). has keys k) (sym ((same_key-decides old key).0 same)) ∙ e in
-    ap (λ (b : Bool). not b && lacks keys key) same ∙ sym (ap not here))
-    (λ apart. ap (λ (b : Bool). not b && lacks keys key) apart)
-    (which (same_key old key))
-
-both_not : (s h : Bool) → (not s && not h) ≡ not (h || s)
-both_not true true = refl
-both_not true false = refl
-both_not false true = refl
-both_not false false = refl
-
-lacks_new : (keys : List Key) (new : Key) (key : Key) → (is_other new key && lacks keys key) ≡ lacks (keys ++ new ∷ []) key
-lacks_new keys new key = ap (λ (b : Bool). not b && lacks keys key) (same_key-laws.symm new key)
-    ∙ both_not (same_key key new) (has keys key) ∙ ap not (sym (has-push keys new key))
-
--- what is joined is the list, and behind it the firsts of the others that it lacks
-pub joined-firsts : (keys more : List Key) → joined keys more ≡ keys ++ filter (lacks keys) (firsts more)
-joined-firsts keys [] = sym (append-nil keys)
-joined-firsts keys (new ∷ more) =
-    let others : List Key = filter (lacks keys) (filter (is_other new) (firsts more)) in
-    ⊎_elim
-    (λ e. ap (λ (b : Bool). joined (cond b keys (keys ++ new ∷ [])) more) e ∙ joined-firsts keys more
-    ∙ ap (λ (zs : List Key). keys ++ zs) (sym (filter-filter (is_other new) (lacks keys) (firsts more) ∙ filter_agree (λ k. is_other new k && lacks keys k) (lacks keys) (lacks_old keys new e) (firsts more)))
-    ∙ sym (ap (λ (b : Bool). keys ++ cond (not b) (new ∷ others) others) e))
-    (λ e. ap (λ (b : Bool). joined (cond b keys (keys ++ new ∷ [])) more) e ∙ joined-firsts (keys ++ new ∷ []) more
-    ∙ append_assoc keys (new ∷ []) (filter (lacks (keys ++ new ∷ [])) (firsts more))
-    ∙ ap (λ (zs : List Key). keys ++ new ∷ zs)
-    (sym (filter-filter (is_other new) (lacks keys) (firsts more) ∙ filter_agree (λ k. is_other new k && lacks keys k) (lacks (keys ++ new ∷ [])) (lacks_new keys new) (firsts more)))
-    ∙ sym (ap (λ (b : Bool). keys ++ cond (not b) (new ∷ others) others) e))
-    (which (has keys new))
-
-filter_all : (keys : List Key) → filter (lacks []) keys ≡ keys
-filter_all [] = refl
-filter_all (key ∷ keys) = ap (λ (zs : List Key). key ∷ zs) (filter_all keys)
-
--- the keys at their first places are what is joined to nothing
-pub firsts-joined : (keys : List Key) → joined [] keys ≡ firsts keys
-firsts-joined keys = joined-firsts [] keys ∙ filter_all (firsts keys)
+-- the new keys are among those that were joined
+pub has-new_in : (keys more : List Key) (key : Key) → has (new_in keys more) key ≡ true → has more key ≡ true
+has-new_in keys [] key e = e
+has-new_in keys (k ∷ more) key e = ⊎_elim
+    (λ old. or_right (same_key key k) (has more key)
+    (has-new_in keys more key (sym (ap (λ (b : Bool). has (cond b (new_in keys more) (k ∷ new_in (keys ++ k ∷ []) more)) key) old) ∙ e)))
+    (λ new. or_more (same_key key k) (has (new_in (keys ++ k ∷ []) more) key) (has more key) (has-new_in (keys ++ k ∷ []) more key)
+    (sym (ap (λ (b : Bool). has (cond b (new_in keys more) (k ∷ new_in (keys ++ k ∷ []) more)) key) new) ∙ e))
+    (which (has keys k))
 
 -- joining two lists is joining one after the other
 pub joined-append : (keys more rest : List Key) → joined keys (more ++ rest) ≡ joined (joined keys more) rest
 joined-append keys [] rest = refl
 joined-append keys (new ∷ more) rest = joined-append (added keys new) more rest
 
--- the firsts of two lists are those of the one, with the other joined
-pub firsts-append : (keys more : List Key) → firsts (keys ++ more) ≡ joined (firsts keys) more
-firsts-append keys more = sym (firsts-joined (keys ++ more)) ∙ joined-append [] keys more ∙ ap (λ (zs : List Key). joined zs more) (firsts-joined keys)
+-- ---- keys at their first places
 
--- the firsts have the keys of the list
+-- they are the keys of the list
 pub has-firsts : (keys : List Key) (key : Key) → has (firsts keys) key ≡ has keys key
-has-firsts keys key = ap (λ (zs : List Key). has zs key) (sym (firsts-joined keys)) ∙ has-joined [] keys key
+has-firsts keys key = has-joined [] keys key
 
--- and no repeats
+-- and stand there once
 pub distinct-firsts : (keys : List Key) → IsDistinct same_key (firsts keys)
 unfolding IsDistinct
-distinct-firsts keys = subst (λ (zs : List Key). IsDistinct same_key zs) (firsts-joined keys) (distinct-joined [] keys tt)
+distinct-firsts keys = distinct-joined [] keys tt
+
+-- there is one at least where the list has one
+pub firsts-some : (key : Key) (keys : List Key) → 1 ≤ length (firsts (key ∷ keys))
+firsts-some key keys = omega (arith, ap length (joined-new (key ∷ []) keys))
+
+-- ---- keys of numbers
+
+-- what follows from what a call did follows where it did it
+on_ok : {A E P Q : Type 0} (r : Result A E) → OnOk r P → (P → Q) → OnOk r Q
+on_ok (Ok x) p f = f p
+on_ok (Err e) p f = tt
+
+-- visiting numbers joins their keys
+pub all_added : (ns : List Num) (old new : List Key) (result : Result (Unit {0}) Memory) → Visited Adds old ns new result → OnOk result (new ≡ joined old (map key_of ns))
+all_added [] old new result v = subst (λ (r : Result (Unit {0}) Memory). OnOk r (new ≡ old)) (sym v.1) v.0
+all_added (n ∷ ns) old new result v = ⊎_elim
+    (λ on. on_ok result (all_added ns on.0 new result on.2) (λ says. says ∙ ap (λ (keys : List Key). joined keys (map key_of ns)) on.1))
+    (λ stop. subst (λ (r : Result (Unit {0}) Memory). OnOk r (new ≡ joined old (map key_of (n ∷ ns)))) (sym stop.1) tt)
+    v

@@ -1,24 +1,19 @@
-pub mod SearchLemmas
 pub mod KeyLemmas
 pub mod KeyListLemmas
 pub mod ListingLemmas
-pub mod SurfaceLemmas
 pub mod WorkListLemmas
 pub mod IndexLemmas
 pub mod NamesLemmas
-pub mod MarkLemmas
-pub mod ReachingLemmas
-pub mod KeepLemmas
-pub mod UsedKeyLemmas
+pub mod PlaceLemmas
+pub mod ReadingLemmas
 pub mod Refusals
 pub mod TextLemmas
-pub mod StringsLemmas
-pub mod SurveyLemmas
-pub mod ListedLemmas
-pub mod SameReplies
-pub mod PickedLemmas
-pub mod EnoughLemmas
-pub mod Decides
+pub mod WordLemmas
+pub mod Decisions
+pub mod Promises
 pub mod OneLaws
-pub mod RunLemmas
-pub mod Examples
+pub mod ExistsLaws
+mod TypeExamples
+mod ReadingExamples
+mod WordExamples
+mod PromiseExamples

@@ -1,6 +1,6 @@
--- What a listing has: its start, every key that one of its keys leads to, no key twice, and no more than its equation says.
-use Rattle.std.proofs.Common.{◌≡◌, ℕ, zero, suc, ◌+◌, ◌<◌, ◌≤◌, length, take, drop, get_or, Bool, true, false, List, [], ◌∷◌, ◌++◌, refl, sym, ap, subst, ◌∙◌, ⊎_elim, arith}
-use Rattle.std.specs.Prelude.{◌||◌, Some, slice_get, flat_map, filter, Contains}
+-- A listing has no key twice, and a key has one listing in a unit.
+use Rattle.std.proofs.Common.{◌≡◌, ℕ, zero, suc, ◌+◌, ◌<◌, ◌≤◌, length, take, drop, get_or, true, false, List, [], ◌∷◌, ◌++◌, refl, sym, ap, subst, ◌∙◌, ⊎_elim, arith}
+use Rattle.std.specs.Prelude.{Some, slice_get, flat_map, Contains}
 use Rattle.std.specs.List.{IsDistinct}
 use Rattle.std.proofs.lemmas.List.{take-append-drop, take-append-le, take_all, get_or_append_left}
 use Rattle.std.proofs.lemmas.Option.{slice_get_within, slice_get-get_or, get_or_from_slice_get}
@@ -10,10 +10,10 @@ use Rattle.std.proofs.lemmas.Map.Keys.{apart_from_distinct, any_passes_from_plac
 use Rattle.stab_grammar.specs.declared.tree.Key.{Key}
 use Rattle.stab_grammar.specs.Surface.{same_key}
 use Rattle.stabs_tool.specs.declared.types.unit.Unit.{Unit}
-use Rattle.stabs_tool.specs.Listings.{IsListing, led_to, firsts}
-use Rattle.stabs_tool.specs.KeyLists.{has}
+use Rattle.stabs_tool.specs.Listings.{IsListing, led_to}
+use Rattle.stabs_tool.specs.KeyLists.{has, firsts}
 use Rattle.stabs_tool.proofs.KeyLemmas.{same_key-laws}
-use Rattle.stabs_tool.proofs.KeyListLemmas.{has-decides, has-append, has-firsts, distinct-firsts, firsts-append, joined-firsts, lacks}
+use Rattle.stabs_tool.proofs.KeyListLemmas.{or_left, or_right, has-decides, has-append, has-firsts, distinct-firsts, firsts-some, joined-append, joined-new, new_in}
 
 -- ---- places
 
@@ -31,13 +31,6 @@ true_not_false e = cc
 pub has-at : (keys : List Key) (place : ℕ) (key : Key) → slice_get keys place ≡ Some key → has keys key ≡ true
 has-at keys place key e = any_passes_from_place (same_key key) keys place key e (same_key-laws.refl key)
 
-or_left : (a b : Bool) → a ≡ true → (a || b) ≡ true
-or_left a b e = ap (λ (c : Bool). c || b) e
-
-or_right : (a b : Bool) → b ≡ true → (a || b) ≡ true
-or_right true b e = refl
-or_right false b e = e
-
 -- a key that one of them leads to is among all that they lead to
 pub has-led : (f : Key → List Key) (keys : List Key) (place : ℕ) (from key : Key) → slice_get keys place ≡ Some from → has (f from) key ≡ true
     → has (flat_map f keys) key ≡ true
@@ -48,33 +41,12 @@ has-led f (k ∷ keys) zero from key at led =
 has-led f (k ∷ keys) (suc place) from key at led =
     has-append (f k) (flat_map f keys) key ∙ or_right (has (f k) key) (has (flat_map f keys) key) (has-led f keys place from key at led)
 
--- a key of a list stands at a place of it
-pub place-of : (keys : List Key) (key : Key) → Contains keys key → (place : ℕ) × (slice_get keys place ≡ Some key)
-place-of keys key here = (here.0, slice_get-get_or keys here.0 key here.1 ∙ ap (λ (z : Key). Some z) here.2)
-
--- ---- what a listing has
+-- ---- no key twice
 
 module _ (unit : Unit) (start : Key) (keys : List Key) (is : IsListing unit start keys) where
   -- no key twice
   pub listing-distinct : IsDistinct same_key keys
   listing-distinct = subst (λ (z : List Key). IsDistinct same_key z) (sym is.equation) (distinct-firsts (start ∷ flat_map (led_to unit) keys))
-
-  -- one key at least
-  pub listing-some : 1 ≤ length keys
-  listing-some = slice_get_within keys 0 start is.begins
-
-  -- the key that it is the listing of
-  pub listing-start : Contains keys start
-  listing-start = (has-decides keys start).0 (has-at keys 0 start is.begins)
-
-  -- every key that one of its keys leads to
-  pub listing-led : (from key : Key) → Contains keys from → Contains (led_to unit from) key → Contains keys key
-  listing-led from key has_from has_key =
-      let at = place-of keys from has_from in
-      let all : has (flat_map (led_to unit) keys) key ≡ true = has-led (led_to unit) keys at.0 from key at.1 ((has-decides (led_to unit from) key).1 has_key) in
-      let among : has (firsts (start ∷ flat_map (led_to unit) keys)) key ≡ true =
-      has-firsts (start ∷ flat_map (led_to unit) keys) key ∙ or_right (same_key key start) (has (flat_map (led_to unit) keys) key) all in
-      (has-decides keys key).0 (ap (λ (z : List Key). has z key) is.equation ∙ among)
 
 -- ---- there is one listing
 
@@ -98,15 +70,15 @@ module _ (unit : Unit) (start : Key) (keys : List Key) (is : IsListing unit star
   first_led = firsts (sources unit start (take n keys))
 
   abbrev behind : List Key
-  behind = filter (lacks first_led) (firsts (flat_map (led_to unit) (drop n keys)))
+  behind = new_in first_led (flat_map (led_to unit) (drop n keys))
 
   sources-split : sources unit start keys ≡ sources unit start (take n keys) ++ flat_map (led_to unit) (drop n keys)
   sources-split = ap (sources unit start) (sym (take-append-drop n keys)) ∙ ap (λ (z : List Key). start ∷ z) (flat_map-append (led_to unit) (take n keys) (drop n keys))
 
   -- they are a front of the listing
   front : keys ≡ first_led ++ behind
-  front = is.equation ∙ ap firsts sources-split ∙ firsts-append (sources unit start (take n keys)) (flat_map (led_to unit) (drop n keys))
-      ∙ joined-firsts first_led (flat_map (led_to unit) (drop n keys))
+  front = is.equation ∙ ap firsts sources-split ∙ joined-append [] (sources unit start (take n keys)) (flat_map (led_to unit) (drop n keys))
+      ∙ joined-new first_led (flat_map (led_to unit) (drop n keys))
 
   -- what one of the first n leads to is among them
   met : (earlier : ℕ) (from key : Key) → earlier < n → slice_get keys earlier ≡ Some from → Contains (led_to unit from) key → Contains first_led key
@@ -124,7 +96,7 @@ module _ (unit : Unit) (start : Key) (keys : List Key) (is : IsListing unit star
   -- where they are no more than n, no key stands at n
   no_more : length first_led ≤ n → (key : Key) → slice_get keys n ≡ Some key → ⊥
   no_more few key at =
-      let l = is.led n key (omega arith) at in
+      let l = is.led n key (omega (arith, firsts-some start (flat_map (led_to unit) (take n keys)))) at in
       met_before few key (met l.0 l.1 key l.2 l.3 l.4) at
 
   -- where they are no more than n, the listing is no longer

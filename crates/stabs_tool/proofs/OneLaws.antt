@@ -1,29 +1,34 @@
--- One outcome of the words: each definition on the way has at most one value.
-use Rattle.std.proofs.Common.{◌≡◌, ℕ, zero, suc, inl, inr, Bool, true, false, List, [], ◌∷◌, length, Option, Some, None, refl, sym, ap, subst, ◌∙◌}
-use Rattle.std.specs.Prelude.{nat_lt}
-use Rattle.std.specs.Bool.{MatchBool}
-use Rattle.std.specs.FinMap.{get}
+-- Words have one outcome at most.
+use Rattle.std.proofs.Common.{◌≡◌, ℕ, zero, suc, List, [], ◌∷◌, Option, Some, None, inl, inr, refl, sym, ap, subst, ◌∙◌}
 use Rattle.outside.specs.Causes.{Contents}
 use Rattle.st_base.specs.Number.{IsBytes}
 use Rattle.st_base.specs.declared.fault.Fault.{Fault}
 use Rattle.aout_object.specs.Objects.{ObjectSpells}
 use Rattle.aout_object.specs.Objects.{Contents as Object}
-use Rattle.aout_object.specs.Reading.{FileFault}
+use Rattle.aout_object.specs.Checks.{FileFault}
 use Rattle.stab_grammar.specs.declared.tree.Key.{Key}
 use Rattle.stab_grammar.specs.declared.tree.Symbol.{Symbol}
 use Rattle.stab_grammar.specs.StringFaults.{IsSpelling, IsStringFault}
-use Rattle.stabs_tool.specs.declared.stabs.Carried.{Carried}
-use Rattle.stabs_tool.specs.declared.stabs.Strings.{Strings}
+use Rattle.stabs_tool.specs.declared.command.Query.{Query}
+use Rattle.stabs_tool.specs.declared.command.Query.TheVariants.{TagNamed}
+use Rattle.stabs_tool.specs.declared.command.Command.{Command}
+use Rattle.stabs_tool.specs.declared.command.Command.TheVariants as commands
+use Rattle.stabs_tool.specs.declared.command.Asked.{Asked}
+use Rattle.stabs_tool.specs.declared.command.Asked.TheVariants as asks
+use Rattle.stabs_tool.specs.declared.inputs.Cause.TheVariants as cause
+use Rattle.stabs_tool.specs.declared.inputs.Inputs.{Inputs}
+use Rattle.stabs_tool.specs.declared.inputs.Inputs.TheVariants.{All, Fault as Faulty, TooMuch}
+use Rattle.stabs_tool.specs.declared.outcome.Outcome.{Outcome}
+use Rattle.stabs_tool.specs.declared.outcome.TheConstants.{DONE}
 use Rattle.stabs_tool.specs.declared.types.unit.Unit.{Unit}
-use Rattle.stabs_tool.specs.declared.reply.Reply.{Reply}
-use Rattle.stabs_tool.specs.declared.words.Command.{Command}
-use Rattle.stabs_tool.specs.declared.words.Command.TheVariants.{TagNamed, Wrong}
 use Rattle.stabs_tool.specs.Units.{tag_of}
 use Rattle.stabs_tool.specs.Listings.{IsListing}
-use Rattle.stabs_tool.specs.Readings.{strings_of, SpellAll, HasFirstFault, AreUnit, AreRefused, at_entry}
-use Rattle.stabs_tool.specs.Words.{command_of}
-use Rattle.stabs_tool.specs.Replies.{most_of_file, listed, refused}
-use Rattle.stabs_tool.specs.Promise.{RepliesOnTag, RepliesInUnit, RepliesOnObject, RepliesOnBytes, RepliesOnFile, Means, IsOutcome, word}
+use Rattle.stabs_tool.specs.Listed.{listing_text}
+use Rattle.stabs_tool.specs.Readings.{Carried, Strings, strings_of, SpellAll, HasFirstFault, AreUnit, AreRefused, at_entry}
+use Rattle.stabs_tool.specs.Words.{first}
+use Rattle.stabs_tool.specs.Commands.{asked}
+use Rattle.stabs_tool.specs.Outcomes.{printed, refused}
+use Rattle.stabs_tool.specs.Replies.{RepliesOnTag, RepliesInUnit, RepliesOnUnit, RepliesOnObject, RepliesOnBytes, Answers, RepliesTo, Means, IsOutcome}
 
 -- what an option holds
 held_same : {A : Type 0} (o : Option A) (x y : A) → o ≡ Some x → o ≡ Some y → x ≡ y
@@ -80,52 +85,56 @@ module _ (one_symbol : (text : List ℕ) (s t : Symbol) → IsSpelling s text �
 
   -- ---- one reply
 
-  module _ (one_object : (first other : Object) (bytes : List ℕ) → IsBytes bytes → ObjectSpells first bytes → ObjectSpells other bytes → first ≡ other)
-      (one_refusal : (bytes : List ℕ) (first other : Fault) → FileFault bytes first → FileFault bytes other → first ≡ other)
-      (object_or_refusal : (bytes : List ℕ) (o : Object) (f : Fault) → IsBytes bytes → ObjectSpells o bytes → FileFault bytes f → ⊥)
+  module _ (one_object : (one other : Object) (bytes : List ℕ) → IsBytes bytes → ObjectSpells one bytes → ObjectSpells other bytes → one ≡ other)
+      (one_refusal : (bytes : List ℕ) (one other : Fault) → FileFault bytes one → FileFault bytes other → one ≡ other)
+      (object_or_refusal : (bytes : List ℕ) (object : Object) (f : Fault) → IsBytes bytes → ObjectSpells object bytes → FileFault bytes f → ⊥)
       (one_listing : (unit : Unit) (start : Key) (keys others : List Key) → IsListing unit start keys → IsListing unit start others → keys ≡ others) where
-    on_tag_once : (unit : Unit) (tag : List ℕ) (r other : Reply) → RepliesOnTag unit tag r → RepliesOnTag unit tag other → r ≡ other
-    on_tag_once unit tag r other (inl p) (inl q) = p.1 ∙ sym q.1
-    on_tag_once unit tag r other (inl p) (inr q) = let k : None ≡ Some q.0 = sym p.0 ∙ q.2 in absurd cc
-    on_tag_once unit tag r other (inr p) (inl q) = let k : None ≡ Some p.0 = sym q.0 ∙ p.2 in absurd cc
-    on_tag_once unit tag r other (inr p) (inr q) =
+    on_tag_once : (unit : Unit) (tag : List ℕ) (o other : Outcome) → RepliesOnTag unit tag o → RepliesOnTag unit tag other → o ≡ other
+    on_tag_once unit tag o other (inl p) (inl q) = p.1 ∙ sym q.1
+    on_tag_once unit tag o other (inl p) (inr q) = let k : None ≡ Some q.0 = sym p.0 ∙ q.2 in absurd cc
+    on_tag_once unit tag o other (inr p) (inl q) = let k : None ≡ Some p.0 = sym q.0 ∙ p.2 in absurd cc
+    on_tag_once unit tag o other (inr p) (inr q) =
         let start : q.0 ≡ p.0 = held_same (tag_of unit tag) q.0 p.0 q.2 p.2 in
         let keys : p.1 ≡ q.1 = one_listing unit p.0 p.1 q.1 p.3 (subst (λ (k : Key). IsListing unit k q.1) start q.3) in
-        p.4 ∙ ap (listed unit) keys ∙ sym q.4
+        p.4 ∙ ap (λ (z : List Key). printed DONE (listing_text unit z)) keys ∙ sym q.4
 
-    in_unit_once : (unit : Unit) (number : ℕ) (tag : List ℕ) (r other : Reply) → RepliesInUnit unit number tag r → RepliesInUnit unit number tag other → r ≡ other
-    in_unit_once unit zero tag r other p q = on_tag_once unit tag r other p q
-    in_unit_once unit (suc number) tag r other p q = p ∙ sym q
+    in_unit_once : (unit : Unit) (number : ℕ) (tag : List ℕ) (o other : Outcome) → RepliesInUnit unit number tag o → RepliesInUnit unit number tag other → o ≡ other
+    in_unit_once unit zero tag o other p q = on_tag_once unit tag o other p q
+    in_unit_once unit (suc number) tag o other p q = p ∙ sym q
 
-    on_object_once : (name : List ℕ) (number : ℕ) (tag : List ℕ) (o : Object) (r other : Reply) → RepliesOnObject name number tag o r → RepliesOnObject name number tag o other → r ≡ other
-    on_object_once name number tag o r other (inl p) (inl q) =
-        let same : q.0 ≡ p.0 = unit_once (strings_of o) q.0 p.0 q.1 p.1 in
-        in_unit_once p.0 number tag r other p.2 (subst (λ (u : Unit). RepliesInUnit u number tag other) same q.2)
-    on_object_once name number tag o r other (inl p) (inr q) = absurd (unit_or_fault (strings_of o) p.0 q.0 p.1 q.1)
-    on_object_once name number tag o r other (inr p) (inl q) = absurd (unit_or_fault (strings_of o) q.0 p.0 q.1 p.1)
-    on_object_once name number tag o r other (inr p) (inr q) = p.2 ∙ ap (refused name) (refused_once (strings_of o) p.0 q.0 p.1 q.1) ∙ sym q.2
+    on_unit_once : (query : Query) (unit : Unit) (o other : Outcome) → RepliesOnUnit query unit o → RepliesOnUnit query unit other → o ≡ other
+    on_unit_once (TagNamed number tag) unit o other p q = in_unit_once unit number tag o other p q
 
-    on_bytes_once : (name : List ℕ) (number : ℕ) (tag bytes : List ℕ) (r other : Reply) → RepliesOnBytes name number tag bytes r → RepliesOnBytes name number tag bytes other → r ≡ other
-    on_bytes_once name number tag bytes r other (are, inl p) (also, inl q) =
+    on_object_once : (name : List ℕ) (query : Query) (object : Object) (o other : Outcome) → RepliesOnObject name query object o → RepliesOnObject name query object other → o ≡ other
+    on_object_once name query object o other (inl p) (inl q) =
+        let same : q.0 ≡ p.0 = unit_once (strings_of object) q.0 p.0 q.1 p.1 in
+        on_unit_once query p.0 o other p.2 (subst (λ (u : Unit). RepliesOnUnit query u other) same q.2)
+    on_object_once name query object o other (inl p) (inr q) = absurd (unit_or_fault (strings_of object) p.0 q.0 p.1 q.1)
+    on_object_once name query object o other (inr p) (inl q) = absurd (unit_or_fault (strings_of object) q.0 p.0 q.1 p.1)
+    on_object_once name query object o other (inr p) (inr q) = p.2 ∙ ap (refused name) (refused_once (strings_of object) p.0 q.0 p.1 q.1) ∙ sym q.2
+
+    on_bytes_once : (name : List ℕ) (query : Query) (bytes : List ℕ) (o other : Outcome) → RepliesOnBytes name query bytes o → RepliesOnBytes name query bytes other → o ≡ other
+    on_bytes_once name query bytes o other (are, inl p) (also, inl q) =
         let same : q.0 ≡ p.0 = one_object q.0 p.0 bytes are q.1 p.1 in
-        on_object_once name number tag p.0 r other p.2 (subst (λ (o : Object). RepliesOnObject name number tag o other) same q.2)
-    on_bytes_once name number tag bytes r other (are, inl p) (also, inr q) = absurd (object_or_refusal bytes p.0 q.0 are p.1 q.1)
-    on_bytes_once name number tag bytes r other (are, inr p) (also, inl q) = absurd (object_or_refusal bytes q.0 p.0 are q.1 p.1)
-    on_bytes_once name number tag bytes r other (are, inr p) (also, inr q) = p.2 ∙ ap (refused name) (one_refusal bytes p.0 q.0 p.1 q.1) ∙ sym q.2
+        on_object_once name query p.0 o other p.2 (subst (λ (z : Object). RepliesOnObject name query z other) same q.2)
+    on_bytes_once name query bytes o other (are, inl p) (also, inr q) = absurd (object_or_refusal bytes p.0 q.0 are p.1 q.1)
+    on_bytes_once name query bytes o other (are, inr p) (also, inl q) = absurd (object_or_refusal bytes q.0 p.0 are q.1 p.1)
+    on_bytes_once name query bytes o other (are, inr p) (also, inr q) = p.2 ∙ ap (refused name) (one_refusal bytes p.0 q.0 p.1 q.1) ∙ sym q.2
 
-    on_content_once : (name : List ℕ) (number : ℕ) (tag bytes : List ℕ) (long : Bool) (a r other : Reply)
-        → MatchBool long (r ≡ a) (RepliesOnBytes name number tag bytes r) → MatchBool long (other ≡ a) (RepliesOnBytes name number tag bytes other) → r ≡ other
-    on_content_once name number tag bytes true a r other p q = p ∙ sym q
-    on_content_once name number tag bytes false a r other p q = on_bytes_once name number tag bytes r other p q
+    answers_once : (command : Command) (texts : List (List ℕ)) (o other : Outcome) → Answers command texts o → Answers command texts other → o ≡ other
+    answers_once (commands.Query file query) texts o other p q = on_bytes_once file query (first texts) o other p q
 
-    on_file_once : (name : List ℕ) (number : ℕ) (tag : List ℕ) (held : Option (List ℕ)) (r other : Reply) → RepliesOnFile name number tag held r → RepliesOnFile name number tag held other → r ≡ other
-    on_file_once name number tag None r other p q = p ∙ sym q
-    on_file_once name number tag (Some bytes) r other p q = on_content_once name number tag bytes (nat_lt most_of_file (length bytes)) _ r other p q
+    replies_once : (command : Command) (inputs : Inputs) (o other : Outcome) → RepliesTo command inputs o → RepliesTo command inputs other → o ≡ other
+    replies_once command (All texts) o other p q = answers_once command texts o other p q
+    replies_once command (Faulty at cause.Absent) o other p q = p ∙ sym q
+    replies_once command (Faulty at cause.Long) o other p q = p ∙ sym q
+    replies_once command (Faulty at cause.Failed) o other p q = p ∙ sym q
+    replies_once command TooMuch o other p q = p ∙ sym q
 
-    means_once : (asked : Command) (words : List (List ℕ)) (m : Contents) (r other : Reply) → Means asked words m r → Means asked words m other → r ≡ other
-    means_once (Wrong at) words m r other p q = p ∙ sym q
-    means_once (TagNamed number) words m r other p q = on_file_once (word words 1) number (word words 4) (get m (word words 1)) r other p q
+    means_once : (a : Asked) (m : Contents) (o other : Outcome) → Means a m o → Means a m other → o ≡ other
+    means_once (asks.Wrong at) m o other p q = p ∙ sym q
+    means_once (asks.Command command) m o other p q = replies_once command _ o other p q
 
     -- words have one outcome
-    pub outcome_once : (words : List (List ℕ)) (m : Contents) (r other : Reply) → IsOutcome words m r → IsOutcome words m other → r ≡ other
-    outcome_once words m r other p q = means_once (command_of words) words m r other p q
+    pub outcome_once : (words : List (List ℕ)) (m : Contents) (o other : Outcome) → IsOutcome words m o → IsOutcome words m other → o ≡ other
+    outcome_once words m o other p q = means_once (asked words) m o other p q

@@ -1,7 +1,7 @@
 -- Whether bytes are UTF-8, by what reading them as text answers.
-use Rattle.std.proofs.Common.{◌≡◌, false, ℕ, List, sym, ap, ⊎_elim}
-use Rattle.std.specs.Prelude.{Result, Ok, Err, not}
-use Rattle.std.specs.Result.{is_err, MatchResult}
+use Rattle.std.proofs.Common.{◌≡◌, false, ℕ, List, sym, ⊎_elim}
+use Rattle.std.specs.Prelude.{Result, Ok, Err}
+use Rattle.std.specs.Result.{is_ok, MatchResult}
 use Rattle.std.specs.Str.{IsUtf8, is_utf8}
 use Rattle.std.proofs.lemmas.Str.{IsUtf8-from_is_utf8, is_utf8-from_IsUtf8}
 use Rattle.stabs_tool.proofs.KeyLemmas.{which}
@@ -9,8 +9,8 @@ use Rattle.stabs_tool.proofs.KeyLemmas.{which}
 fails : (bytes : List ℕ) → (IsUtf8 bytes → ⊥) → is_utf8 bytes ≡ false
 fails bytes none = ⊎_elim (λ yes. absurd (none (IsUtf8-from_is_utf8 bytes yes))) (λ no. no) (which (is_utf8 bytes))
 
--- reading fails exactly where they are none
-pub refused_as_text : {T E : Type 0} (r : Result T E) (bytes : List ℕ) (P : T → Type 0) (Q : E → Type 0)
-    → MatchResult r (λ x. P x × IsUtf8 bytes) (λ e. (IsUtf8 bytes → ⊥) × Q e) → is_err r ≡ not (is_utf8 bytes)
-refused_as_text (Ok x) bytes P Q answer = sym (ap not (is_utf8-from_IsUtf8 bytes answer.1))
-refused_as_text (Err e) bytes P Q answer = sym (ap not (fails bytes answer.0))
+-- reading succeeds exactly where they are
+pub read_as_text : {T E : Type 0} (r : Result T E) (bytes : List ℕ) (P : T → Type 0) (Q : E → Type 0)
+    → MatchResult r (λ x. P x × IsUtf8 bytes) (λ e. (IsUtf8 bytes → ⊥) × Q e) → is_ok r ≡ is_utf8 bytes
+read_as_text (Ok x) bytes P Q answer = sym (is_utf8-from_IsUtf8 bytes answer.1)
+read_as_text (Err e) bytes P Q answer = sym (fails bytes answer.0)

@@ -1,21 +1,22 @@
 -- A listing by a work list: the keys that were found, of which so many are done with. Each step keeps what the list is, it ends
--- with a listing, and there are no more keys than there are on the surfaces of the unit's definitions.
-use Rattle.std.proofs.Common.{◌≡◌, ℕ, zero, suc, ◌+◌, ◌<◌, ◌≤◌, length, take, Bool, true, false, List, [], ◌∷◌, ◌++◌, refl, sym, ap, subst, ◌∙◌, ◌⊎◌, inl, inr, ⊎_elim, arith, cond, length-append, append-nil}
-use Rattle.std.specs.Prelude.{◌&&◌, ◌||◌, ◌==◌, Option, Some, None, slice_get, flat_map, filter, Contains}
+-- with a listing, and there are no more keys than there are on the surfaces of the unit's definitions; so there is a listing.
+use Rattle.std.proofs.Common.{◌≡◌, ℕ, zero, suc, ◌+◌, ◌<◌, ◌≤◌, length, take, get_or, Bool, true, false, List, [], ◌∷◌, ◌++◌, refl, sym, ap, subst, ◌∙◌, ◌⊎◌, inl, inr, ⊎_elim, arith, cond, length-append, append-nil}
+use Rattle.std.specs.Prelude.{◌==◌, Option, Some, None, slice_get, flat_map, Contains}
 use Rattle.std.specs.List.{find}
 use Rattle.std.proofs.lemmas.List.{take_more, take-append-le, take_all}
-use Rattle.std.proofs.lemmas.Option.{slice_get_within, get_or_from_slice_get}
+use Rattle.std.proofs.lemmas.Bool.{cases_lt}
+use Rattle.std.proofs.lemmas.Option.{slice_get_within, slice_get-get_or, get_or_from_slice_get}
 use Rattle.std.proofs.lemmas.Grind.{flat_map-append}
-use Rattle.std.proofs.lemmas.Map.Made.{is_member-filter, length-le_from_is_member}
+use Rattle.std.proofs.lemmas.Map.Made.{length-le_from_is_member}
 use Rattle.stab_grammar.specs.declared.tree.Key.{Key}
 use Rattle.stab_grammar.specs.Definitions.{Definition}
 use Rattle.stab_grammar.specs.Surface.{same_key, surface_of}
 use Rattle.stabs_tool.specs.declared.types.unit.Unit.{Unit}
 use Rattle.stabs_tool.specs.Units.{definitions_of, first_of, body_of, or_else, is_full, is_any}
-use Rattle.stabs_tool.specs.Listings.{IsListing, led_to, surface_keys, firsts}
-use Rattle.stabs_tool.specs.KeyLists.{has, joined}
-use Rattle.stabs_tool.proofs.KeyLemmas.{which, same_key-decides, same_key-laws}
-use Rattle.stabs_tool.proofs.KeyListLemmas.{lacks, has-decides, has-append, has-firsts, distinct-firsts, firsts-append, joined-firsts}
+use Rattle.stabs_tool.specs.Listings.{IsListing, led_to, surface_keys}
+use Rattle.stabs_tool.specs.KeyLists.{has, joined, firsts}
+use Rattle.stabs_tool.proofs.KeyLemmas.{which, same_key-laws}
+use Rattle.stabs_tool.proofs.KeyListLemmas.{or_left, or_right, either, has-decides, has-append, has-firsts, distinct-firsts, joined-append, joined-new, new_in, has-new_in}
 use Rattle.stabs_tool.proofs.ListingLemmas.{has-at}
 
 -- ---- what the list is
@@ -62,20 +63,9 @@ listed-start unit start = record {
 false_not_true : false ≡ true → ⊥
 false_not_true e = cc
 
-true_and : (a b : Bool) → (a && b) ≡ true → a ≡ true
-true_and true b e = refl
-true_and false b e = e
-
--- what is put behind a list when keys are joined is among those keys
-has-new : (keys more : List Key) (key : Key) → has (filter (lacks keys) (firsts more)) key ≡ true → has more key ≡ true
-has-new keys more key e =
-    let both : (has (firsts more) key && lacks keys key) ≡ true =
-    sym (is_member-filter same_key-laws (lacks keys) key (λ k same. ap (lacks keys) ((same_key-decides key k).0 same)) (firsts more)) ∙ e in
-    sym (has-firsts more key) ∙ true_and (has (firsts more) key) (lacks keys key) both
-
 module _ (unit : Unit) (start : Key) (keys : List Key) (done : ℕ) (from : Key) (was : Listed unit start keys done) (at : slice_get keys done ≡ Some from) where
   abbrev new : List Key
-  new = filter (lacks keys) (firsts (led_to unit from))
+  new = new_in keys (led_to unit from)
 
   below : done < length keys
   below = slice_get_within keys done from at
@@ -91,7 +81,7 @@ module _ (unit : Unit) (start : Key) (keys : List Key) (done : ℕ) (from : Key)
     from,
     omega (arith, below, behind.0),
     slice_get-kept keys new done from at,
-    (has-decides (led_to unit from) key).0 (has-new keys (led_to unit from) key (has-at new behind.1.0 key behind.1.1)),
+    (has-decides (led_to unit from) key).0 (has-new_in keys (led_to unit from) key (has-at new behind.1.0 key behind.1.1)),
   )
 
   step-before : (place : ℕ) (key : Key) → 0 < place → slice_get keys place ≡ Some key
@@ -111,9 +101,9 @@ module _ (unit : Unit) (start : Key) (keys : List Key) (done : ℕ) (from : Key)
   led_more = flat_map-append (led_to unit) (take done keys) (from ∷ []) ∙ ap (λ (z : List Key). flat_map (led_to unit) (take done keys) ++ z) (append-nil (led_to unit from))
 
   step-equation : keys ++ new ≡ firsts (start ∷ flat_map (led_to unit) (take (done + 1) (keys ++ new)))
-  step-equation = sym (joined-firsts keys (led_to unit from))
+  step-equation = sym (joined-new keys (led_to unit from))
       ∙ ap (λ (z : List Key). joined z (led_to unit from)) was.equation
-      ∙ sym (firsts-append (start ∷ flat_map (led_to unit) (take done keys)) (led_to unit from))
+      ∙ sym (joined-append [] (start ∷ flat_map (led_to unit) (take done keys)) (led_to unit from))
       ∙ ap (λ (z : List Key). firsts (start ∷ z)) (sym led_more)
       ∙ ap (λ (z : List Key). firsts (start ∷ flat_map (led_to unit) z)) (sym one_more)
 
@@ -122,7 +112,7 @@ module _ (unit : Unit) (start : Key) (keys : List Key) (done : ℕ) (from : Key)
 
   -- joining what a key leads to is being done with it
   pub listed-step : (next : List Key) → next ≡ joined keys (led_to unit from) → Listed unit start next (done + 1)
-  listed-step next e = subst (λ (z : List Key). Listed unit start z (done + 1)) (sym (e ∙ joined-firsts keys (led_to unit from))) step-made
+  listed-step next e = subst (λ (z : List Key). Listed unit start z (done + 1)) (sym (e ∙ joined-new keys (led_to unit from))) step-made
 
 -- ---- the list as it ends
 
@@ -132,7 +122,7 @@ module _ (unit : Unit) (start : Key) (keys : List Key) (done : ℕ) (was : Liste
   listed-all end =
       let all : take done keys ≡ keys = take_all done keys end in
       record {
-        begins = ap (λ (z : List Key). slice_get z 0) was.equation;
+        begins = ap (λ (z : List Key). slice_get z 0) (was.equation ∙ joined-new (start ∷ []) (flat_map (led_to unit) (take done keys)));
         led = was.led;
         equation = was.equation ∙ ap (λ (z : List Key). firsts (start ∷ flat_map (led_to unit) z)) all;
       }
@@ -147,26 +137,15 @@ surface_of_definition d = surface_of d.body
 abbrev pub all_there_are : Unit → Key → List Key
 all_there_are unit start = start ∷ flat_map surface_of_definition (definitions_of unit)
 
-either : (a b : Bool) → (a || b) ≡ true → (a ≡ true) ⊎ (b ≡ true)
-either true b e = inl e
-either false b e = inr e
-
-left_holds : (a b : Bool) → a ≡ true → (a || b) ≡ true
-left_holds a b e = ap (λ (c : Bool). c || b) e
-
-right_holds : (a b : Bool) → b ≡ true → (a || b) ≡ true
-right_holds true b e = refl
-right_holds false b e = e
-
 module _ (key : Key) where
   -- a key on the surface of a definition that a search finds is on that of one of those that are searched
   found-within : (test : Definition → Bool) (ds : List Definition) → has (surface_keys (body_of (find test ds))) key ≡ true
       → has (flat_map surface_of_definition ds) key ≡ true
   found-within test [] e = e
   found-within test (d ∷ ds) e = has-append (surface_of d.body) (flat_map surface_of_definition ds) key ∙ ⊎_elim
-      (λ yes. left_holds (has (surface_of d.body) key) (has (flat_map surface_of_definition ds) key)
+      (λ yes. or_left (has (surface_of d.body) key) (has (flat_map surface_of_definition ds) key)
       (sym (ap (λ (b : Bool). has (surface_keys (body_of (cond b (Some d) (find test ds)))) key) yes) ∙ e))
-      (λ no. right_holds (has (surface_of d.body) key) (has (flat_map surface_of_definition ds) key)
+      (λ no. or_right (has (surface_of d.body) key) (has (flat_map surface_of_definition ds) key)
       (found-within test ds (sym (ap (λ (b : Bool). has (surface_keys (body_of (cond b (Some d) (find test ds)))) key) no) ∙ e)))
       (which (test d))
 
@@ -200,6 +179,26 @@ listed-bound unit start keys done was =
     subst (λ (z : List Key). length z ≤ length (all_there_are unit start)) (sym was.equation)
     (length-le_from_is_member same_key-laws (firsts sources) (all_there_are unit start) (distinct-firsts sources)
     (λ key e. ⊎_elim
-    (left_holds (same_key key start) (has (flat_map surface_of_definition (definitions_of unit)) key))
-    (λ led. right_holds (same_key key start) (has (flat_map surface_of_definition (definitions_of unit)) key) (all_led-within key unit (take done keys) led))
+    (or_left (same_key key start) (has (flat_map surface_of_definition (definitions_of unit)) key))
+    (λ led. or_right (same_key key start) (has (flat_map surface_of_definition (definitions_of unit)) key) (all_led-within key unit (take done keys) led))
     (either (same_key key start) (has (flat_map (led_to unit) (take done keys)) key) (sym (has-firsts sources key) ∙ e))))
+
+-- ---- there is a listing
+
+module _ (unit : Unit) (start : Key) where
+  -- going on from a key that is not done with, until all are
+  pub listed-on : (steps : ℕ) (keys : List Key) (done : ℕ) → Listed unit start keys done → length (all_there_are unit start) ≤ done + steps
+      → (all : List Key) × IsListing unit start all
+  listed-on zero keys done was enough = (keys, listed-all unit start keys done was (omega (arith, enough, listed-bound unit start keys done was)))
+  listed-on (suc steps) keys done was enough = ⊎_elim
+      (λ left.
+      let from : Key = get_or keys done start in
+      listed-on steps (joined keys (led_to unit from)) (done + 1)
+      (listed-step unit start keys done from was (slice_get-get_or keys done start left) (joined keys (led_to unit from)) refl)
+      (omega (arith, enough)))
+      (λ end. (keys, listed-all unit start keys done was end))
+      (cases_lt done (length keys))
+
+  -- from the start on
+  pub some_listing : (keys : List Key) × IsListing unit start keys
+  some_listing = listed-on (length (all_there_are unit start)) (start ∷ []) 0 (listed-start unit start) (omega arith)

@@ -1,14 +1,16 @@
 -- Indexes of a unit by the numbers of file 0: of its definitions, as it grows by one definition after another, and of the symbols
 -- that name types, as it grows by one symbol after another. This project's own.
-use Rattle.std.specs.Prelude.{◌≡◌, ℕ, not, ◌&&◌, ◌==◌, if◌then◌else◌, List, [], ◌∷◌, Option, Some, None}
+use Rattle.std.specs.Prelude.{◌≡◌, ℕ, not, ◌&&◌, ◌==◌, if◌then◌else◌, List, [], ◌∷◌, Option, Some, None, Result, OnOk, ⊤}
 use Rattle.std.specs.Option.{option_copied}
 use Rattle.std.specs.Ordering.{nat_cmp}
 use Rattle.std.specs.BTreeMap.{BTreeMap, get}
 use Rattle.std.specs.Borrow.{Bor}
+use Rattle.st_base.specs.declared.fault.Memory.{Memory}
 use Rattle.stab_grammar.specs.declared.tree.Key.{Key}
 use Rattle.stab_grammar.specs.declared.tree.TypeTree.{TypeTree}
 use Rattle.stab_grammar.specs.Definitions.{Definition, is_cross}
 use Rattle.stab_grammar.specs.Surface.{same_key}
+use Rattle.stabs_tool.specs.declared.types.index.Noting.{Noting}
 use Rattle.stabs_tool.specs.declared.types.unit.Unit.{Unit}
 use Rattle.stab_grammar.specs.declared.tree.Symbol.{Symbol}
 use Rattle.stabs_tool.specs.Units.{definition_of, is_name, name_of}
@@ -36,6 +38,10 @@ main_key number = record { file = 0; number = number }
 -- what the index has for a number of file 0
 abbrev pub body_in : BTreeMap ℕ (Bor TypeTree) → ℕ → Option TypeTree
 body_in index number = option_copied (get nat_cmp index number)
+
+-- noting a definition, unless memory runs out
+abbrev pub Notes : Noting → Definition → Noting → Result ⊤ Memory → Type 0
+Notes old d new result = OnOk result ((n : ℕ) → body_in new.index n ≡ noted (main_key n) (body_in old.index n) d)
 
 -- what the index has for a key
 abbrev pub looked_up : BTreeMap ℕ (Bor TypeTree) → Key → Option TypeTree

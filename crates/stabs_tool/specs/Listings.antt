@@ -1,10 +1,11 @@
 -- The listing of a key: the key itself and then every key that its definition leads to, each once. It is this project's own,
 -- and is said by an equation on the list, which no work list stands behind.
-use Rattle.std.specs.Prelude.{◌≡◌, ◌<◌, ℕ, Bool, not, List, [], ◌∷◌, filter, flat_map, Option, Some, None, slice_get, All, Contains}
+use Rattle.std.specs.Prelude.{◌≡◌, ◌<◌, ℕ, List, [], ◌∷◌, flat_map, Option, Some, None, slice_get, Contains}
 use Rattle.stab_grammar.specs.declared.tree.Key.{Key}
 use Rattle.stab_grammar.specs.declared.tree.TypeTree.{TypeTree}
-use Rattle.stab_grammar.specs.Surface.{same_key, surface_of}
+use Rattle.stab_grammar.specs.Surface.{surface_of}
 use Rattle.stabs_tool.specs.declared.types.unit.Unit.{Unit}
+use Rattle.stabs_tool.specs.KeyLists.{firsts}
 use Rattle.stabs_tool.specs.Units.{definition_of}
 
 -- the keys on the surface of a definition, none where there is none
@@ -16,15 +17,6 @@ surface_keys (Some body) = surface_of body
 abbrev pub led_to : Unit → Key → List Key
 led_to unit key = surface_keys (definition_of unit key)
 
--- the key is another one
-abbrev pub is_other : Key → Key → Bool
-is_other key k = not (same_key key k)
-
--- each key once, at its first place
-abbrev pub firsts : List Key → List Key
-firsts [] = []
-firsts (key ∷ keys) = key ∷ filter (is_other key) (firsts keys)
-
 -- the list `keys` is the listing of `start`
 pub record IsListing (unit : Unit) (start : Key) (keys : List Key) : Type 0 where
   -- it begins with the key
@@ -34,7 +26,3 @@ pub record IsListing (unit : Unit) (start : Key) (keys : List Key) : Type 0 wher
       → (earlier : ℕ) × (from : Key) × (earlier < place) × (slice_get keys earlier ≡ Some from) × Contains (led_to unit from) key
   -- it is the start and then the surfaces of the definitions of its keys, in its own order, each key at its first place
   pub equation : keys ≡ firsts (start ∷ flat_map (led_to unit) keys)
-
--- each key of the list leads to keys of the list alone
-abbrev pub IsClosed : Unit → List Key → Type 0
-IsClosed unit keys = (key : Key) → Contains keys key → All (Contains keys) (led_to unit key)

@@ -1,117 +1,63 @@
--- What a run promises: the outcome of a list of words over a map of files that never fail, and the causes of every answer
--- that is another. This is the file to read first; it is this project's own.
-use Rattle.std.specs.Prelude.{◌≡◌, ◌≢◌, ℕ, zero, suc, List, [], ◌++◌, length, Option, Some, None, ◌⊎◌, slice_index_or, nat_lt, ⊤}
-use Rattle.std.specs.Bool.{MatchBool}
+-- What a run promises, whatever the command: the outcome of the words over files that tell their contents, what each status says,
+-- what the sink has gained, and which contents have changed. This is the file to read first; it is this project's own.
+use Rattle.std.specs.Prelude.{◌≡◌, ◌≢◌, ◌⊎◌, ℕ, List, Option, Some, None, true}
 use Rattle.std.specs.FinMap.{get}
-use Rattle.st_base.specs.Number.{IsBytes}
-use Rattle.st_base.specs.declared.fault.Fault.{Fault}
 use Rattle.outside.specs.Causes.{Contents, Rose}
-use Rattle.outside.specs.declared.files.Loaded.{Loaded}
-use Rattle.outside.specs.declared.files.Loaded.TheVariants as loaded
-use Rattle.stab_grammar.specs.declared.tree.Key.{Key}
-use Rattle.aout_object.specs.Objects.{ObjectSpells}
-use Rattle.aout_object.specs.Objects.{Contents as Object}
-use Rattle.aout_object.specs.Reading.{FileFault}
-use Rattle.stabs_tool.specs.declared.types.unit.Unit.{Unit}
-use Rattle.stabs_tool.specs.declared.reply.Reply.{Reply}
-use Rattle.stabs_tool.specs.declared.words.Command.{Command}
-use Rattle.stabs_tool.specs.declared.words.Command.TheVariants.{TagNamed, Wrong}
-use Rattle.stabs_tool.specs.Units.{tag_of}
-use Rattle.stabs_tool.specs.Listings.{IsListing}
-use Rattle.stabs_tool.specs.Readings.{strings_of, AreUnit, AreRefused}
-use Rattle.stabs_tool.specs.Words.{command_of}
-use Rattle.stabs_tool.specs.Replies.{usage, absent, read_fault, limit, refused, nothing, listed, most_of_file, READ_FAULT, WRITE_FAULT, NO_MEMORY, ABSENT, USAGE}
+use Rattle.stabs_tool.specs.declared.outcome.Outcome.{Outcome}
+use Rattle.stabs_tool.specs.declared.outcome.TheConstants.{DONE, USAGE, ABSENT, READ_FAULT, WRITE_FAULT, NO_MEMORY}
+use Rattle.stabs_tool.specs.Outcomes.{usage, absent, read_fault, write_fault_text, contents_after, is_status}
+use Rattle.stabs_tool.specs.Causes.{FilesSeen, Lacks, Gained, GainedFront, GainedOneFront}
 
--- ---- the outcome
+-- an outcome was carried out: its status was answered, its text printed, and its content stored over the contents `m`
+abbrev pub IsDone : (Contents → Outcome → Type 0) → Contents → FilesSeen → Option (List ℕ) → Option (List ℕ) → ℕ → Type 0
+IsDone Means m h old new result = (o : Outcome) × Means m o × (result ≡ o.status) × Gained old new o.text × (h.held ≡ Some (contents_after m o.stored))
 
--- the reply on a tag of a unit: its listing, or nothing where there is none
-abbrev pub RepliesOnTag : Unit → List ℕ → Reply → Type 0
-RepliesOnTag unit tag r = ((tag_of unit tag ≡ None) × (r ≡ nothing))
-    ⊎ ((key : Key) × (keys : List Key) × (tag_of unit tag ≡ Some key) × IsListing unit key keys × (r ≡ listed unit keys))
+-- `Means m` is the outcome of the words over contents m, `Reads` their inputs, `Writes` the name that they store, `Wrong` the place
+-- of their wrong word. The files are f before the run and h after it; the sink has `old` bytes and `before` failed puts before it,
+-- `new` and `now` after it; `result` is the status
+pub record Promise (Means : Contents → Outcome → Type 0) (Reads Writes : List ℕ → Type 0) (Wrong : ℕ → Type 0) (f h : FilesSeen) (old new : Option (List ℕ)) (before now result : ℕ) : Type 0 where
+  -- the status is one of the table
+  pub listed : is_status result ≡ true
+  -- ---- the outcome, where the files tell their contents
 
--- the reply on a tag of the unit with a number, of a file with this one unit
-abbrev pub RepliesInUnit : Unit → ℕ → List ℕ → Reply → Type 0
-RepliesInUnit unit zero tag r = RepliesOnTag unit tag r
-RepliesInUnit unit (suc other) tag r = r ≡ nothing
+  -- where nothing failed, the outcome was carried out, or the run was out of memory
+  pub complete : (m : Contents) → f.held ≡ Some m → ¬ (Rose f.loads h.loads) → ¬ (Rose f.stores h.stores) → ¬ (Rose before now)
+      → (result ≡ NO_MEMORY) ⊎ IsDone Means m h old new result
+  -- every status but those of failures and of memory is the outcome's, whatever failed
+  pub defined : (m : Contents) → f.held ≡ Some m → result ≢ READ_FAULT → result ≢ WRITE_FAULT → result ≢ NO_MEMORY → IsDone Means m h old new result
+  -- and where the outcome has a status other than 0, that one is answered, unless a read failed, the sink did, or memory ran out
+  pub exact : (m : Contents) (o : Outcome) → f.held ≡ Some m → Means m o → o.status ≢ DONE → result ≢ READ_FAULT → result ≢ NO_MEMORY
+      → ¬ (Rose before now) → result ≡ o.status
+  -- ---- causes, also over files that do not tell
 
--- what is kept of a unit is enough for the reply on a tag
-abbrev pub IsEnough : Unit → Unit → List ℕ → Type 0
-IsEnough unit kept tag = (r : Reply) → RepliesOnTag kept tag r → RepliesOnTag unit tag r
+  -- words that are no command are told by their place, and get no other answer
+  pub usage_told : result ≡ USAGE → (at : ℕ) × Wrong at × Gained old new (usage at).text
+  pub wrong : (at : ℕ) → Wrong at → ¬ (Rose before now) → (result ≡ NO_MEMORY) ⊎ (result ≡ USAGE)
+  -- an input is absent only where the files lack it, or do not tell and failed last at it in this run
+  pub absent_told : result ≡ ABSENT → (name : List ℕ) × Reads name × Lacks f.held f.loads h.loads h.last name × Gained old new (absent name).text
+  -- reading fails only where the count of failed loads rose in this run, last at an input
+  pub read_fault_told : result ≡ READ_FAULT → Rose f.loads h.loads
+      × ((name : List ℕ) × (h.last ≡ Some name) × Reads name × Gained old new (read_fault name).text)
+  -- writing fails only where the sink's count rose, or that of failed stores and the words store a file
+  pub write_fault : result ≡ WRITE_FAULT → Rose before now ⊎ (Rose f.stores h.stores × ((name : List ℕ) × Writes name))
+  -- ---- what the sink has gained
 
--- the reply on an object: that of its unit, or its refusal
-abbrev pub RepliesOnObject : List ℕ → ℕ → List ℕ → Object → Reply → Type 0
-RepliesOnObject name number tag o r = ((unit : Unit) × AreUnit (strings_of o) unit × RepliesInUnit unit number tag r)
-    ⊎ ((f : Fault) × AreRefused (strings_of o) f × (r ≡ refused name f))
+  -- where a store failed and the sink did not, exactly the line of a write fault
+  pub write_line : result ≡ WRITE_FAULT → ¬ (Rose before now) → Gained old new write_fault_text
+  -- where the files did not fail, a front of the outcome's text, at any status
+  pub front : (m : Contents) (o : Outcome) → f.held ≡ Some m → Means m o → ¬ (Rose f.loads h.loads) → ¬ (Rose f.stores h.stores) → GainedFront old new o.text
+  -- whatever failed, a front of one of three texts, at any status
+  pub one_front : (m : Contents) (o : Outcome) → f.held ≡ Some m → Means m o → GainedOneFront h.last old new o.text
+  -- ---- contents
 
--- the reply on the bytes of a file: that of the object that they spell, or the refusal of the file
-abbrev pub RepliesOnBytes : List ℕ → ℕ → List ℕ → List ℕ → Reply → Type 0
-RepliesOnBytes name number tag bytes r = IsBytes bytes × (((o : Object) × ObjectSpells o bytes × RepliesOnObject name number tag o r)
-    ⊎ ((f : Fault) × FileFault bytes f × (r ≡ refused name f)))
-
--- the reply on a name: whether there is a file, whether it is within the limit, and what its bytes are
-abbrev pub RepliesOnFile : List ℕ → ℕ → List ℕ → Option (List ℕ) → Reply → Type 0
-RepliesOnFile name number tag None r = r ≡ absent name
-RepliesOnFile name number tag (Some bytes) r = MatchBool (nat_lt most_of_file (length bytes)) (r ≡ limit) (RepliesOnBytes name number tag bytes r)
-
--- a word by its place
-abbrev pub word : List (List ℕ) → ℕ → List ℕ
-word words at = slice_index_or words at []
-
--- what is printed and answered for a command, over files with these contents
-abbrev pub Means : Command → List (List ℕ) → Contents → Reply → Type 0
-Means (Wrong at) words m r = r ≡ usage at
-Means (TagNamed number) words m r = RepliesOnFile (word words 1) number (word words 4) (get m (word words 1)) r
-
--- the outcome of the words
-abbrev pub IsOutcome : List (List ℕ) → Contents → Reply → Type 0
-IsOutcome words m r = Means (command_of words) words m r
-
--- ---- causes
-
--- the names that a command reads
-abbrev pub IsInputOf : Command → List (List ℕ) → List ℕ → Type 0
-IsInputOf (Wrong at) words name = ⊥
-IsInputOf (TagNamed number) words name = name ≡ word words 1
-
--- the name is an input
-abbrev pub IsInput : List (List ℕ) → List ℕ → Type 0
-IsInput words name = IsInputOf (command_of words) words name
-
--- why a name is told to be absent: the files lack it, or do not tell, and failed last at it in this run
-abbrev pub Lacks : Option Contents → ℕ → ℕ → Option (List ℕ) → List ℕ → Type 0
-Lacks (Some m) before now last name = get m name ≡ None
-Lacks None before now last name = Rose before now × (last ≡ Some name)
-
--- a sink that tells its bytes has gained exactly these
-abbrev pub Gained : Option (List ℕ) → Option (List ℕ) → List ℕ → Type 0
-Gained None new text = ⊤
-Gained (Some old) new text = new ≡ Some (old ++ text)
-
--- a sink that tells its bytes has gained a front of these
-abbrev pub GainedFront : Option (List ℕ) → Option (List ℕ) → List ℕ → Type 0
-GainedFront None new text = ⊤
-GainedFront (Some old) new text = (front : List ℕ) × (rest : List ℕ) × (text ≡ front ++ rest) × (new ≡ Some (old ++ front))
-
--- ---- what is decided before it is printed
-
--- the reply on what a load of the name answered
-abbrev pub Says : List ℕ → ℕ → List ℕ → Loaded → Reply → Type 0
-Says name number tag (loaded.Bytes bytes) r = RepliesOnBytes name number tag bytes r
-Says name number tag loaded.Absent r = r ≡ absent name
-Says name number tag loaded.Long r = r ≡ limit
-Says name number tag loaded.Failed r = r ≡ read_fault name
-Says name number tag loaded.Memory r = ⊥
-
--- the reply is the defined one, as far as the files tell
-abbrev pub AsDefined : Option Contents → Command → List (List ℕ) → Reply → Type 0
-AsDefined held (Wrong at) words r = r ≡ usage at
-AsDefined None (TagNamed number) words r = ⊤
-AsDefined (Some m) (TagNamed number) words r = Means (TagNamed number) words m r
-
--- the reply on a command, its causes with it
-pub record Decided (held : Option Contents) (before now : ℕ) (last : Option (List ℕ)) (asked : Command) (words : List (List ℕ)) (r : Reply) : Type 0 where
-  pub defined : r.status ≢ READ_FAULT → AsDefined held asked words r
-  pub read : r.status ≡ READ_FAULT → Rose before now × ((name : List ℕ) × (last ≡ Some name) × IsInputOf asked words name × (r ≡ read_fault name))
-  pub lacks : r.status ≡ ABSENT → (name : List ℕ) × IsInputOf asked words name × (r ≡ absent name) × Lacks held before now last name
-  pub usage_alone : r.status ≡ USAGE → (at : ℕ) × (asked ≡ Wrong at)
-  pub bound : (r.status ≢ WRITE_FAULT) × (r.status ≢ NO_MEMORY)
+  -- with every status but 0 and those of a failed write and of memory, no content has changed
+  pub unchanged : result ≢ DONE → result ≢ WRITE_FAULT → result ≢ NO_MEMORY → h.held ≡ f.held
+  -- no content has changed but that of the name which is stored
+  pub others : (m : Contents) → f.held ≡ Some m → (end : Contents) × (h.held ≡ Some end) × ((other : List ℕ) → ¬ (Writes other) → get end other ≡ get m other)
+  -- where only printing failed, the outcome's content was stored
+  pub stored : (m : Contents) (o : Outcome) → f.held ≡ Some m → Means m o → result ≡ WRITE_FAULT → ¬ (Rose f.loads h.loads) → ¬ (Rose f.stores h.stores)
+      → h.held ≡ Some (contents_after m o.stored)
+  -- where no store failed, all contents are as before, or the outcome's is stored
+  pub whole : (m : Contents) (o : Outcome) → f.held ≡ Some m → Means m o → ¬ (Rose f.stores h.stores) → (h.held ≡ Some m) ⊎ (h.held ≡ Some (contents_after m o.stored))
+  -- files that do not tell their contents do not tell them afterwards
+  pub untold : f.held ≡ None → h.held ≡ None

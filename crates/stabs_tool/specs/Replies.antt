@@ -1,103 +1,84 @@
--- What is printed, and the status with it. Each line ends in a line feed; names, type texts and bodies stand in their shown
--- form. The texts are this project's own.
-use Rattle.std.specs.Prelude.{ℕ, ◌+◌, List, [], ◌∷◌, ◌++◌, length, codes, decimal, Option, Some, None}
+-- The outcome of words over files that tell their contents and do not fail. This is this project's own.
+use Rattle.std.specs.Prelude.{◌≡◌, ◌⊎◌, ℕ, zero, suc, List, Some, None}
+use Rattle.std.specs.FinMap.{get}
+use Rattle.outside.specs.Causes.{Contents}
+use Rattle.st_base.specs.Number.{IsBytes}
 use Rattle.st_base.specs.declared.fault.Fault.{Fault}
-use Rattle.st_base.specs.Shown.{shown}
+use Rattle.st_base.specs.declared.sizes.TheConstants.{FILE_LIMIT}
 use Rattle.stab_grammar.specs.declared.tree.Key.{Key}
-use Rattle.stab_grammar.specs.declared.tree.TypeTree.{TypeTree}
-use Rattle.stab_grammar.specs.declared.tree.Symbol.{Symbol}
-use Rattle.stab_grammar.specs.Spelling.{letters}
-use Rattle.stab_grammar.specs.Surface.{placed}
+use Rattle.aout_object.specs.Objects.{ObjectSpells}
+use Rattle.aout_object.specs.Objects.{Contents as Object}
+use Rattle.aout_object.specs.Checks.{FileFault}
+use Rattle.stabs_tool.specs.declared.command.Query.{Query}
+use Rattle.stabs_tool.specs.declared.command.Query.TheVariants.{TagNamed}
+use Rattle.stabs_tool.specs.declared.command.Command.{Command}
+use Rattle.stabs_tool.specs.declared.command.Command.TheVariants as commands
+use Rattle.stabs_tool.specs.declared.command.Asked.{Asked}
+use Rattle.stabs_tool.specs.declared.command.Asked.TheVariants as asks
+use Rattle.stabs_tool.specs.declared.inputs.Cause.TheVariants as cause
+use Rattle.stabs_tool.specs.declared.inputs.Inputs.{Inputs}
+use Rattle.stabs_tool.specs.declared.inputs.Inputs.TheVariants.{All, Fault as Faulty, TooMuch}
+use Rattle.stabs_tool.specs.declared.outcome.Outcome.{Outcome}
+use Rattle.stabs_tool.specs.declared.outcome.TheConstants.{DONE}
 use Rattle.stabs_tool.specs.declared.types.unit.Unit.{Unit}
-use Rattle.stabs_tool.specs.declared.reply.Reply.{Reply}
-use Rattle.stabs_tool.specs.Units.{definition_of, name_of}
+use Rattle.stabs_tool.specs.Units.{tag_of}
+use Rattle.stabs_tool.specs.Listings.{IsListing}
+use Rattle.stabs_tool.specs.Listed.{listing_text}
+use Rattle.stabs_tool.specs.Readings.{strings_of, AreUnit, AreRefused}
+use Rattle.stabs_tool.specs.Words.{first}
+use Rattle.stabs_tool.specs.Commands.{asked, inputs_of, most_of}
+use Rattle.stabs_tool.specs.Inputs.{loaded_inputs, name_at}
+use Rattle.stabs_tool.specs.Outcomes.{printed, usage, absent, read_fault, limit, refused, nothing}
 
--- ---- statuses
+-- ---- a query of a file
 
-abbrev pub USAGE : ℕ
-USAGE = 2
+-- the reply on a tag of a unit: its listing, or nothing where there is none
+abbrev pub RepliesOnTag : Unit → List ℕ → Outcome → Type 0
+RepliesOnTag unit tag o = ((tag_of unit tag ≡ None) × (o ≡ nothing))
+    ⊎ ((key : Key) × (keys : List Key) × (tag_of unit tag ≡ Some key) × IsListing unit key keys × (o ≡ printed DONE (listing_text unit keys)))
 
-abbrev pub REFUSED : ℕ
-REFUSED = 3
+-- the reply on a tag of the unit with a number, of a file with this one unit
+abbrev pub RepliesInUnit : Unit → ℕ → List ℕ → Outcome → Type 0
+RepliesInUnit unit zero tag o = RepliesOnTag unit tag o
+RepliesInUnit unit (suc other) tag o = o ≡ nothing
 
-abbrev pub ABSENT : ℕ
-ABSENT = 5
+-- the reply on a file with this one unit
+abbrev pub RepliesOnUnit : Query → Unit → Outcome → Type 0
+RepliesOnUnit (TagNamed number tag) unit o = RepliesInUnit unit number tag o
 
-abbrev pub READ_FAULT : ℕ
-READ_FAULT = 6
+-- the reply on an object, whose file has this name: that of its unit, or its refusal
+abbrev pub RepliesOnObject : List ℕ → Query → Object → Outcome → Type 0
+RepliesOnObject name query object o = ((unit : Unit) × AreUnit (strings_of object) unit × RepliesOnUnit query unit o)
+    ⊎ ((f : Fault) × AreRefused (strings_of object) f × (o ≡ refused name f))
 
-abbrev pub WRITE_FAULT : ℕ
-WRITE_FAULT = 7
+-- the reply on the bytes of a file: that of the object that they spell, or the refusal of the file
+abbrev pub RepliesOnBytes : List ℕ → Query → List ℕ → Outcome → Type 0
+RepliesOnBytes name query bytes o = IsBytes bytes × (((object : Object) × ObjectSpells object bytes × RepliesOnObject name query object o)
+    ⊎ ((f : Fault) × FileFault bytes f × (o ≡ refused name f)))
 
-abbrev pub NO_MEMORY : ℕ
-NO_MEMORY = 8
+-- ---- any command
 
-abbrev pub LIMIT : ℕ
-LIMIT = 9
+-- the outcome of a command whose inputs have these contents
+abbrev pub Answers : Command → List (List ℕ) → Outcome → Type 0
+Answers (commands.Query file query) texts o = RepliesOnBytes file query (first texts) o
 
--- ---- lines
+-- the outcome of a command whose inputs come to this
+abbrev pub RepliesTo : Command → Inputs → Outcome → Type 0
+RepliesTo command (All texts) o = Answers command texts o
+RepliesTo command (Faulty at cause.Absent) o = o ≡ absent (name_at (inputs_of command) at)
+RepliesTo command (Faulty at cause.Long) o = o ≡ limit (most_of command)
+RepliesTo command (Faulty at cause.Failed) o = o ≡ read_fault (name_at (inputs_of command) at)
+RepliesTo command TooMuch o = o ≡ limit FILE_LIMIT
 
--- one line and its status
-abbrev pub line : ℕ → List ℕ → Reply
-line status text = record { status = status; text = text ++ 10 ∷ [] }
+-- the outcome of what was asked, over these contents
+abbrev pub Means : Asked → Contents → Outcome → Type 0
+Means (asks.Wrong at) m o = o ≡ usage at
+Means (asks.Command command) m o = RepliesTo command (loaded_inputs m (most_of command) FILE_LIMIT (inputs_of command)) o
 
--- `usage: word W`, the place of the word
-unfoldable pub usage : ℕ → Reply
-usage word = line USAGE (codes "usage: word " ++ decimal word)
+-- the outcome of words over these contents
+abbrev pub IsOutcome : List (List ℕ) → Contents → Outcome → Type 0
+IsOutcome words m o = Means (asked words) m o
 
--- `absent NAME`
-unfoldable pub absent : List ℕ → Reply
-absent name = line ABSENT (codes "absent " ++ shown name)
-
--- `read fault NAME`
-unfoldable pub read_fault : List ℕ → Reply
-read_fault name = line READ_FAULT (codes "read fault " ++ shown name)
-
--- the most bytes of a file that a query reads
-abbrev pub most_of_file : ℕ
-most_of_file = 134217728
-
--- `limit M`, the limit that was passed
-unfoldable pub limit : Reply
-limit = line LIMIT (codes "limit 134217728")
-
--- `N P W`: the number of a fault, its place and its within
-abbrev pub fault_text : Fault → List ℕ
-fault_text f = decimal f.number ++ 32 ∷ decimal f.place ++ 32 ∷ decimal f.within
-
--- `refused NAME N P W`
-unfoldable pub refused : List ℕ → Fault → Reply
-refused name f = line REFUSED (codes "refused " ++ shown name ++ 32 ∷ fault_text f)
-
--- `none`: a reply without lines
-unfoldable pub nothing : Reply
-nothing = line 0 (codes "none")
-
--- ---- the listing of a key
-
--- `CLASS NAME` of a key: the descriptor and the name of its symbol, or `- -`
-abbrev pub name_text : Option Symbol → List ℕ
-name_text None = codes "- -"
-name_text (Some s) = letters s.descriptor ++ 32 ∷ shown s.name
-
--- `BODY` of a key: its definition with places for the keys of the listing, or `undefined`
-abbrev pub body_text : List Key → Option TypeTree → List ℕ
-body_text keys None = codes "undefined"
-body_text keys (Some body) = shown (placed keys body)
-
--- `I CLASS NAME BODY`, I the place of a key, by the symbol that names it and its definition
-unfoldable pub node_line : List Key → ℕ → Option Symbol → Option TypeTree → List ℕ
-node_line keys place name body = decimal place ++ 32 ∷ name_text name ++ 32 ∷ body_text keys body ++ 10 ∷ []
-
--- the lines of these keys, the first of which has this place in the listing
-abbrev pub node_lines : Unit → List Key → ℕ → List Key → List ℕ
-node_lines unit keys place [] = []
-node_lines unit keys place (key ∷ rest) = node_line keys place (name_of unit key) (definition_of unit key) ++ node_lines unit keys (place + 1) rest
-
--- the number of keys on a line, and then a line for each
-unfoldable pub listing_text : Unit → List Key → List ℕ
-listing_text unit keys = decimal (length keys) ++ 10 ∷ node_lines unit keys 0 keys
-
--- the reply with a listing
-abbrev pub listed : Unit → List Key → Reply
-listed unit keys = record { status = 0; text = listing_text unit keys }
+-- the contents are bytes, as those of files are
+abbrev pub AreBytes : Contents → Type 0
+AreBytes m = (name bytes : List ℕ) → get m name ≡ Some bytes → IsBytes bytes

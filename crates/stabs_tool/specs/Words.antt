@@ -1,70 +1,98 @@
--- What the words of a command line ask. This is this project's own.
-use Rattle.std.specs.Prelude.{◌<◌, ℕ, nat_lt, Bool, not, List, [], ◌∷◌, length, position, codes, if◌then◌else◌, Option, Some, None}
+-- The words of a command line: what each place of a command wants, and which word is wrong. This is this project's own.
+use Rattle.std.specs.Prelude.{ℕ, ◌+◌, Bool, false, true, ◌&&◌, nat_le, if◌then◌else◌, List, [], ◌∷◌, codes, Option, Some, None, unwrap_or}
 use Rattle.std.specs.Str.{bytes_eq, is_utf8}
 use Rattle.std.specs.Result.{result_ok}
 use Rattle.readers.specs.Readers.{whole_of}
 use Rattle.readers.specs.Words.{number_at}
-use Rattle.stabs_tool.specs.declared.words.Command.{Command}
-use Rattle.stabs_tool.specs.declared.words.Command.TheVariants.{TagNamed, Wrong}
+use Rattle.stabs_tool.specs.declared.words.Keyword.{Keyword}
+use Rattle.stabs_tool.specs.declared.words.Keyword.TheVariants as keywords
+use Rattle.stabs_tool.specs.declared.words.Operand.{Operand}
+use Rattle.stabs_tool.specs.declared.words.Operand.TheVariants as operands
+use Rattle.stabs_tool.specs.declared.words.Want.{Want}
+use Rattle.stabs_tool.specs.declared.words.Want.TheVariants.{This, Any, Number}
 
--- the greatest number of a unit, file or type in a query
-abbrev pub greatest : ℕ
-greatest = 4294967295
+-- ---- words
+
+-- the word is UTF-8, as every word of a command is
+abbrev pub is_text : List ℕ → Bool
+is_text word = is_utf8 word
+
+-- the greatest number in a command
+abbrev pub greatest_number : ℕ
+greatest_number = 4294967295
 
 -- the number that a word spells in decimal digits without a leading zero, up to the greatest
-abbrev pub number_of_word : List ℕ → Option ℕ
-number_of_word word = result_ok (whole_of (number_at greatest) word)
+abbrev pub spelled_number : List ℕ → Option ℕ
+spelled_number word = result_ok (whole_of (number_at greatest_number) word)
 
--- ---- `query FILE tag U NAME`, from the back to the front
+-- that number; 0 where the word spells none
+abbrev pub number_of : List ℕ → ℕ
+number_of word = unwrap_or (spelled_number word) 0
 
--- behind U: NAME and nothing more
-abbrev pub from_name : Option ℕ → List (List ℕ) → Command
-from_name None words = Wrong 3
-from_name (Some unit) [] = Wrong 4
-from_name (Some unit) (name ∷ []) = TagNamed unit
-from_name (Some unit) (name ∷ word ∷ words) = Wrong 5
+-- there is a number, and it is at most this one
+abbrev pub at_most : ℕ → Option ℕ → Bool
+at_most most None = false
+at_most most (Some number) = nat_le number most
 
--- behind `tag`
-abbrev pub from_unit : List (List ℕ) → Command
-from_unit [] = Wrong 3
-from_unit (unit ∷ words) = from_name (number_of_word unit) words
+-- the word spells a number up to `most`
+abbrev pub is_number : ℕ → List ℕ → Bool
+is_number most word = at_most most (spelled_number word)
 
--- behind FILE
-abbrev pub from_tag : List (List ℕ) → Command
-from_tag [] = Wrong 2
-from_tag (word ∷ words) = if bytes_eq word (codes "tag") then from_unit words else Wrong 2
+-- the word that a keyword is
+abbrev pub keyword_text : Keyword → List ℕ
+keyword_text keywords.Query = codes "query"
+keyword_text keywords.Tag = codes "tag"
 
--- behind `query`
-abbrev pub from_file : List (List ℕ) → Command
-from_file [] = Wrong 1
-from_file (file ∷ words) = from_tag words
+-- ---- places
 
--- the whole line
-abbrev pub from_words : List (List ℕ) → Command
-from_words [] = Wrong 0
-from_words (word ∷ words) = if bytes_eq word (codes "query") then from_file words else Wrong 0
+-- the word is what the place wants
+abbrev pub is_wanted : Want → List ℕ → Bool
+is_wanted (This keyword) word = bytes_eq word (keyword_text keyword)
+is_wanted (Any operand) word = true
+is_wanted (Number operand most) word = is_number most word
 
--- ---- words that are no text
+-- the place holds what it wants, and that is UTF-8
+abbrev pub holds : Want → List ℕ → Bool
+holds want word = is_text word && is_wanted want word
 
--- the word is not UTF-8, and so it is wrong wherever it stands
-abbrev pub is_no_text : List ℕ → Bool
-is_no_text word = not (is_utf8 word)
+-- where words stop to be what places want, `at` of them standing before: the first that does not hold it, the number of words
+-- where one is missing, or the first one too many
+abbrev pub wrong_from : ℕ → List Want → List (List ℕ) → Option ℕ
+wrong_from at [] [] = None
+wrong_from at [] (word ∷ words) = Some at
+wrong_from at (want ∷ places) [] = Some at
+wrong_from at (want ∷ places) (word ∷ words) = if holds want word then wrong_from (at + 1) places words else Some at
 
--- the lesser of two places
-abbrev pub earlier : ℕ → ℕ → ℕ
-earlier place other = if nat_lt place other then place else other
+-- the wrong place of a whole line; none where the words are what the places want
+abbrev pub wrong_place : List Want → List (List ℕ) → Option ℕ
+wrong_place places words = wrong_from 0 places words
 
--- what is asked where the word at this place is wrong: the first wrong word is told
-abbrev pub wrong_too : Option ℕ → Command → Command
-wrong_too None command = command
-wrong_too (Some place) (Wrong word) = Wrong (earlier place word)
-wrong_too (Some place) (TagNamed unit) = Wrong place
+-- ---- operands
 
--- what the words ask, or the place of the first wrong word, of the first one too many, or of the one that is missing
-abbrev pub command_of : List (List ℕ) → Command
-command_of words = wrong_too (position is_no_text words) (from_words words)
+-- the two are one operand
+abbrev pub same_operand : Operand → Operand → Bool
+same_operand operands.File operands.File = true
+same_operand operands.Unit operands.Unit = true
+same_operand operands.Name operands.Name = true
+same_operand one other = false
 
--- the words that a command names are there
-abbrev pub IsWithin : Command → List (List ℕ) → Type 0
-IsWithin (Wrong word) words = Unit {0}
-IsWithin (TagNamed unit) words = 4 < length words
+-- the place wants this operand
+abbrev pub is_operand : Operand → Want → Bool
+is_operand operand (This keyword) = false
+is_operand operand (Any other) = same_operand operand other
+is_operand operand (Number other most) = same_operand operand other
+
+-- the first word of a line; empty where there is none
+abbrev pub first : List (List ℕ) → List ℕ
+first [] = []
+first (word ∷ words) = word
+
+-- the words behind the first
+abbrev pub behind : List (List ℕ) → List (List ℕ)
+behind [] = []
+behind (word ∷ words) = words
+
+-- the word that is this operand: the first whose place wants it, empty where there is none
+abbrev pub word_of : Operand → List Want → List (List ℕ) → List ℕ
+word_of wanted [] words = []
+word_of wanted (want ∷ places) words = if is_operand wanted want then first words else word_of wanted places (behind words)

@@ -1,19 +1,47 @@
-//! What the definitions determine: one outcome of the words.
+//! What the definitions determine: words have exactly one outcome, and over files and a sink that never fail it is carried out.
 
-ghost use Rattle.std.specs.Prelude.{◌≡◌, ℕ, List};
+ghost use Rattle.std.specs.Prelude.{◌≡◌, ◌⊎◌, ℕ, List, Some, None};
 ghost use Rattle.outside.specs.Causes.{Contents};
-ghost use Rattle.stabs_tool.specs.declared.reply.Reply.{Reply};
-ghost use Rattle.stabs_tool.specs.Promise.{IsOutcome};
+ghost use Rattle.stabs_tool.specs.declared.outcome.Outcome.{Outcome};
+ghost use Rattle.stabs_tool.specs.Causes.{seen};
+ghost use Rattle.stabs_tool.specs.Promise.{IsDone};
+ghost use Rattle.stabs_tool.specs.Replies.{IsOutcome, AreBytes};
 
-use crate::types::one_listing;
+use crate::outcome::NO_MEMORY;
+use crate::top::run;
+use crate::types::{a_listing, one_listing};
 use aout_object::object_laws;
+use outside::{SureFiles, SureSink};
+use st_base::{List, Text};
 use stab_grammar::one_symbol;
+use std::alloc::Global;
 
 /// Words have one outcome at most over files with the same contents.
 pub fn one_outcome()
-    ensures { (words : List (List ℕ)) (m : Contents) (r other : Reply) → IsOutcome words m r → IsOutcome words m other → r ≡ other }
+    ensures { (words : List (List ℕ)) (m : Contents) (o other : Outcome) → IsOutcome words m o → IsOutcome words m other → o ≡ other }
 {
     object_laws();
     one_symbol();
     one_listing();
+}
+
+/// Words have an outcome over all contents that are bytes, as those of files are.
+pub fn an_outcome()
+    ensures { (words : List (List ℕ)) (m : Contents) → AreBytes m → (o : Outcome) × IsOutcome words m o }
+{
+    object_laws();
+    one_symbol();
+    a_listing();
+}
+
+/// A run over files and a sink that never fail: the outcome is carried out, unless out of memory.
+pub fn run_surely(
+    alloc: Global,
+    words: &List<Text>,
+    files: &mut SureFiles,
+    out: &mut SureSink,
+) -> u8
+    ensures { (result ≡ NO_MEMORY) ⊎ IsDone (IsOutcome words.now) files.old (seen (Some files.new) 0 0 None) (Some out.old) (Some out.new) result }
+{
+    run(alloc, words, files, out)
 }

@@ -1,19 +1,20 @@
-//! The reply with a listing: the number of its keys, and a line for each.
+//! The text of a listing: the number of its keys, and a line for each.
 
-ghost use Rattle.std.specs.Prelude.{◌≡◌, ◌++◌, ◌∷◌, [], ◌<◌, length, decimal, IfOk, OnOk, All, Contains};
-ghost use Rattle.std.specs.List.{IsDistinct};
+ghost use Rattle.std.specs.Prelude.{◌≡◌, ◌++◌, List, IfOk, OnOk};
 ghost use Rattle.std.specs.Option.{option_copied};
-ghost use Rattle.stab_grammar.specs.Surface.{same_key};
-ghost use Rattle.stabs_tool.specs.Listings.{IsClosed, surface_keys};
-ghost use Rattle.stabs_tool.specs.Replies as spec;
+ghost use Rattle.stab_grammar.specs.declared.tree.Key.{Key as KeyValue};
+ghost use Rattle.stab_grammar.specs.Surface.{ArePlaces};
+ghost use Rattle.stabs_tool.specs.Listed as spec;
 
-use crate::reply::{Reply, put_number};
+use crate::numbers::put_number;
 use crate::types::index::{body_at, index};
 use crate::types::names::{name_at, names};
+use crate::types::places::places;
 use crate::types::{KeyList, Unit};
 use st_base::{Memory, Text, show};
-use stab_grammar::{Symbol, TypeTree, letters_of, print_placed};
+use stab_grammar::{Key, Symbol, TypeTree, letters_of, print_placed_by};
 use std::alloc::Global;
+use std::collections::BTreeMap;
 
 /// `CLASS NAME` of a key, by the symbol that names it.
 fn put_name(name: Option<&Symbol>, out: &mut Text) -> Result<(), Memory>
@@ -29,80 +30,70 @@ fn put_name(name: Option<&Symbol>, out: &mut Text) -> Result<(), Memory>
     }
 }
 
-/// `BODY` of a key, by its definition.
+/// `BODY` of a key, by its definition, with the places of the keys of a listing.
 fn put_body(
     alloc: Global,
-    listing: &KeyList,
+    places: &BTreeMap<Key, usize>,
     body: Option<&TypeTree>,
     out: &mut Text,
 ) -> Result<(), Memory>
-    requires distinct { IsDistinct same_key listing.now.keys }
-    requires present { All (Contains listing.now.keys) (surface_keys (option_copied body)) }
-    ensures { OnOk result (out.new ≡ out.old ++ spec.body_text listing.now.keys (option_copied body.entry)) }
+    ensures { (keys : List KeyValue) → ArePlaces keys places.now → OnOk result (out.new ≡ out.old ++ spec.body_text keys (option_copied body.entry)) }
 {
     match body {
         None => out.extend(b"undefined"),
         Some(body) => {
             let mut text = Text::new(alloc);
-            print_placed(body, &listing.keys, &mut text)?;
+            print_placed_by(body, places, &mut text)?;
             show(out, text.bytes())
         }
     }
 }
 
 /// `I CLASS NAME BODY` of a key.
-#[tactic(auto, unfolding(crate::specs::Replies::node_line))]
+#[tactic(auto, unfolding(crate::specs::Listed::node_line))]
 fn put_node(
     alloc: Global,
-    listing: &KeyList,
+    places: &BTreeMap<Key, usize>,
     place: usize,
     name: Option<&Symbol>,
     body: Option<&TypeTree>,
     out: &mut Text,
 ) -> Result<(), Memory>
-    requires distinct { IsDistinct same_key listing.now.keys }
-    requires present { All (Contains listing.now.keys) (surface_keys (option_copied body)) }
-    ensures { OnOk result (out.new ≡ out.old ++ spec.node_line listing.now.keys place (option_copied name.entry) (option_copied body.entry)) }
+    ensures { (keys : List KeyValue) → ArePlaces keys places.now → OnOk result (out.new ≡ out.old ++ spec.node_line keys place (option_copied name.entry) (option_copied body.entry)) }
 {
     put_number(place as u64, out)?;
     out.push(b' ')?;
     put_name(name, out)?;
     out.push(b' ')?;
-    put_body(alloc, listing, body, out)?;
+    put_body(alloc, places, body, out)?;
     out.push(b'\n')
 }
 
 fn put_nodes(alloc: Global, unit: &Unit, listing: &KeyList, out: &mut Text) -> Result<(), Memory>
-    requires distinct { IsDistinct same_key listing.now.keys }
-    requires closed { IsClosed unit.now listing.now.keys }
     ensures { OnOk result (out.new ≡ out.old ++ spec.node_lines unit.now listing.now.keys 0 listing.now.keys) }
 {
     let definitions = index(alloc, unit)?;
     let names = names(alloc, unit)?;
+    let places = places(alloc, listing.keys.items())?;
     for (place, key) in listing.keys.items().iter().enumerate() {
         let name = name_at(&names, *key);
-        put_node(
-            alloc,
-            listing,
-            place,
-            name,
-            body_at(&definitions, *key),
-            out,
-        )?;
+        let body = body_at(&definitions, *key);
+        put_node(alloc, &places, place, name, body, out)?;
     }
     Ok(())
 }
 
-/// The reply with a listing.
-#[tactic(auto, unfolding(crate::specs::Replies::listing_text))]
-pub fn listed(alloc: Global, unit: &Unit, listing: &KeyList) -> Result<Reply, Memory>
-    requires distinct { IsDistinct same_key listing.now.keys }
-    requires closed { IsClosed unit.now listing.now.keys }
-    ensures { IfOk result (λ r. r ≡ spec.listed unit.now listing.now.keys) }
+/// The text of a listing of a unit's types: the number of its keys, and for each key a line `I CLASS NAME BODY`.
+///
+/// `I` is the place of the key, counted from 0; `CLASS NAME` is the descriptor and the name of the symbol that names it, or `- -`;
+/// `BODY` is its definition, in which each number is `#` and the place of its key, or `undefined`. The text is this project's own.
+#[tactic(auto, unfolding(crate::specs::Listed::listing_text))]
+pub fn listing_text(alloc: Global, unit: &Unit, listing: &KeyList) -> Result<Text, Memory>
+    ensures { IfOk result (λ t. t ≡ spec.listing_text unit.now listing.now.keys) }
 {
     let mut text = Text::new(alloc);
     put_number(listing.keys.len() as u64, &mut text)?;
     text.push(b'\n')?;
     put_nodes(alloc, unit, listing, &mut text)?;
-    Ok(Reply { status: 0, text })
+    Ok(text)
 }

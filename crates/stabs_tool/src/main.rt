@@ -1,29 +1,32 @@
 //! The program: it answers questions about the stabs of an object file.
 //!
 //! `run` does all that the program does, over any files and any sink; `main` makes the real ones. What a run
-//! promises is `specs/Promise.antt`, and the clauses of `run`.
+//! promises is `specs/Promise.antt`, and the clause of `run`.
 #![tactic(auto)]
 
+mod answer;
 mod arguments;
+mod carry;
+mod command;
 mod decide;
-#[cfg(test)]
-mod file_tests;
+mod inputs;
 mod laws;
 mod listed;
-mod marks;
-mod reach;
-mod reading;
-mod reply;
+mod numbers;
+mod outcome;
 mod stabs;
-mod survey;
+#[cfg(test)]
+mod table;
 #[cfg(test)]
 mod tests;
 mod top;
 pub mod types;
+mod unit_reading;
 mod words;
 
 use arguments::words_of;
-pub use laws::one_outcome;
+pub use laws::{an_outcome, one_outcome, run_surely};
+use outcome::NO_MEMORY;
 use outside::{DiskFiles, StreamSink};
 use std::process::ExitCode;
 pub use top::run;
@@ -36,6 +39,6 @@ fn main(rt: HostRuntime) -> ExitCode {
             let mut files = DiskFiles::new(rt);
             ExitCode::from(run(alloc, &words, &mut files, &mut out))
         }
-        Err(_) => ExitCode::from(8),
+        Err(_) => ExitCode::from(NO_MEMORY),
     }
 }

@@ -1,258 +1,372 @@
-//! Runs of the whole program: over memory, and once through the adapters over a real file.
+//! Runs of the whole program, over files and a sink in memory: the rows of one table, and once the adapters over real files.
+//!
+//! A line of the table begins with its kind. `#` says what the row behind it is about, and is told where the row fails.
+//!
+//! - `file NAME BYTES`: a file from here on. Bytes are two hexadecimal digits each, and texts between quotes; `_` means nothing.
+//! - `object ORDER NAME ENTRIES`: a file with four bytes of text, four of data, a relocation of each, and these entries, each its
+//!   kind in two digits, `:` and its name.
+//! - `files N`, `sink N`: in the next run the call of this number fails, counted from 0.
+//! - `run WORDS`: the program over all files so far, with these words.
+//! - `carry STATUS NAME BYTES TEXT`: an outcome that stores these bytes under the name and prints the text and a line feed.
+//! - `> LINE`: a line that is printed; `holds NAME BYTES`, `lacks NAME`: what the files hold behind the run.
+//! - `ends STATUS`: the status, and the end of the row. `rows N`: so many rows there were.
 
-use crate::run;
+use crate::carry::carry_out;
+use crate::outcome::{Content, Outcome};
+use crate::table::ROWS;
+use crate::{run, run_surely};
 use outside::{DiskFiles, Files, Loaded, MemoryFiles, MemorySink, StreamSink, SureFiles, SureSink};
 use st_base::{List, Text};
 use std::alloc::Global;
 use std::fs::{self, File};
 use std::process::Abort;
+use std::str::from_utf8;
 use std::test::Fail;
 
-/// The object of the README, with the byte at one place set.
-fn object(alloc: Global, at: usize, byte: u8) -> Result<Text, Fail> {
-    let mut bytes = Text::new(alloc);
-    // header: magic and machine; no text, data, bss; three entries; entry word; no relocations
-    bytes.extend(b"\x07\x01\0\0\0\0\0\0\0\0\0\0\0\0\0\0\x24\0\0\0\0\0\0\0\0\0\0\0\0\0\0\0")?;
-    // entries: strx, kind, other, desc, value
-    bytes.extend(b"\x04\0\0\0\x64\0\0\0\0\0\0\0")?;
-    bytes.extend(b"\x08\0\0\0\x80\0\0\0\0\0\0\0")?;
-    bytes.extend(b"\x32\0\0\0\x80\0\0\0\0\0\0\0")?;
-    // string table: its length, and the names
-    bytes.extend(b"\x69\0\0\0a.c\0")?;
-    bytes.extend(b"int:t(0,1)=r(0,1);-2147483648;2147483647;\0")?;
-    bytes.extend(b"list:T(0,2)=s8val:(0,1),0,32;next:(0,3)=*(0,2),32,32;;\0")?;
-    if at < bytes.bytes().len() {
-        bytes.bytes_mut()[at] = byte;
+/// A name and the content that it has.
+#[derive(Drop)]
+struct Held {
+    name: Text,
+    bytes: Text,
+}
+
+/// What the lines so far have said.
+#[derive(Drop)]
+struct Table {
+    alloc: Global,
+    held: List<Held>,
+    failing_files: List<u64>,
+    failing_puts: List<u64>,
+    label: Text,
+    files: MemoryFiles,
+    status: u8,
+    printed: Text,
+    expected: Text,
+    rows: u64,
+}
+
+// ---- the parts of a line
+
+/// What stands before the first blank, and what behind it.
+fn word(line: &[u8]) -> (&[u8], &[u8]) {
+    for at in 0..line.len() {
+        if line[at] == b' ' {
+            return (&line[..at], &line[at + 1..]);
+        }
     }
-    Ok(bytes)
-}
-
-/// The object of the README without its last byte.
-fn short_object(alloc: Global) -> Result<Text, Fail> {
-    let whole = object(alloc, NOWHERE, 0)?;
-    let mut bytes = Text::new(alloc);
-    if let Some((_, front)) = whole.bytes().split_last() {
-        bytes.extend(front)?;
-    }
-    Ok(bytes)
-}
-
-/// The object of the README with one byte more.
-fn long_object(alloc: Global) -> Result<Text, Fail> {
-    let mut bytes = object(alloc, NOWHERE, 0)?;
-    bytes.push(0)?;
-    Ok(bytes)
-}
-
-/// A place that no object of these tests has.
-const NOWHERE: usize = usize::MAX;
-
-fn text(alloc: Global, bytes: &[u8]) -> Result<Text, Fail> {
-    let mut copy = Text::new(alloc);
-    copy.extend(bytes)?;
-    Ok(copy)
+    (line, &[])
 }
 
 /// The words of a line, split at its blanks.
-fn split(alloc: Global, line: &[u8]) -> Result<List<Text>, Fail> {
+fn words_of(alloc: Global, line: &[u8]) -> Result<List<Text>, Fail> {
     let mut words = List::new(alloc);
     for word in line.split(|b| *b == b' ') {
         if !word.is_empty() {
-            words.push(text(alloc, word)?)?;
+            words.push(Text::of(alloc, word)?)?;
         }
     }
     Ok(words)
 }
 
-/// The reply on the recursive structure of the README.
-const LIST: &[u8] =
-    b"3\n0 T list s8val:#1,0,32;next:#2,32,32;;\n1 t int r#1;-2147483648;2147483647;\n2 - - *#0\n";
-
-/// Runs these words over the object of the README and three files that are refused, and compares.
-fn expect(
-    rt: &impl Abort,
-    alloc: Global,
-    words: &[u8],
-    status: u8,
-    expected: &[u8],
-) -> Result<(), Fail> {
-    let mut files = MemoryFiles::new(alloc);
-    files.hold(text(alloc, b"a.o")?, object(alloc, NOWHERE, 0)?)?;
-    files.hold(text(alloc, b"function.o")?, object(alloc, 60, 0x24)?)?;
-    files.hold(text(alloc, b"other_magic.o")?, object(alloc, 0, 0)?)?;
-    files.hold(text(alloc, b"empty")?, Text::new(alloc))?;
-    let mut out = MemorySink::new(alloc);
-    let answered = run(alloc, &split(alloc, words)?, &mut files, &mut out);
-    assert_eq!(rt; out.written(), expected);
-    assert_eq!(rt; answered, status);
-    Ok(())
+/// The number that digits spell in a base.
+fn number_of(base: u64, digits: &[u8]) -> u64 {
+    let mut value = 0u64;
+    for b in digits {
+        let digit = match b {
+            b'0'..=b'9' => *b - b'0',
+            b'a'..=b'f' => *b - b'a' + 10,
+            _ => 0,
+        };
+        value = value.wrapping_mul(base).wrapping_add(u64::from(digit));
+    }
+    value
 }
 
-#[test]
-fn tags_are_listed(rt: HostRuntime) -> Result<(), Fail> {
-    let alloc = rt.alloc();
-    expect(&rt, alloc, b"query a.o tag 0 list", 0, LIST)?;
-    expect(&rt, alloc, b"query a.o tag 0 lost", 0, b"none\n")?;
-    expect(&rt, alloc, b"query a.o tag 0 int", 0, b"none\n")?;
-    expect(&rt, alloc, b"query a.o tag 1 list", 0, b"none\n")?;
-    expect(&rt, alloc, b"query a.o tag 4294967295 list", 0, b"none\n")
+fn byte_of(digits: &[u8]) -> u8 {
+    u8::try_from(number_of(16, digits)).unwrap_or(0)
 }
 
-#[test]
-fn other_files_are_refused(rt: HostRuntime) -> Result<(), Fail> {
-    let alloc = rt.alloc();
-    expect(
-        &rt,
-        alloc,
-        b"query function.o tag 0 list",
-        3,
-        b"refused function.o 200 0 0\n",
-    )?;
-    expect(
-        &rt,
-        alloc,
-        b"query other_magic.o tag 0 list",
-        3,
-        b"refused other_magic.o 1 0 0\n",
-    )?;
-    expect(
-        &rt,
-        alloc,
-        b"query empty tag 0 list",
-        3,
-        b"refused empty 5 0 0\n",
-    )?;
-    expect(&rt, alloc, b"query b.o tag 0 list", 5, b"absent b.o\n")?;
-    expect(&rt, alloc, b"query \x01 tag 0 list", 5, b"absent \\x01\n")
-}
-
-#[test]
-fn an_object_one_byte_short_or_long_is_refused(rt: HostRuntime) -> Result<(), Fail> {
-    let alloc = rt.alloc();
-    let words = split(alloc, b"query a.o tag 0 list")?;
-    for (bytes, expected) in [
-        (short_object(alloc)?, b"refused a.o 5 172 0\n".as_slice()),
-        (long_object(alloc)?, b"refused a.o 6 173 0\n"),
-    ] {
-        let mut files = MemoryFiles::new(alloc);
-        files.hold(text(alloc, b"a.o")?, bytes)?;
-        let mut out = MemorySink::new(alloc);
-        assert_eq!(rt; run(alloc, &words, &mut files, &mut out), 3);
-        assert_eq!(rt; out.written(), expected);
+/// Appends the bytes that a text between no quotes spells.
+fn put_hex(digits: &[u8], out: &mut Text) -> Result<(), Fail> {
+    for piece in digits.split(|b| *b == b'_') {
+        let (pairs, _) = piece.as_chunks::<2>();
+        for pair in pairs {
+            out.push(byte_of(pair))?;
+        }
     }
     Ok(())
 }
 
-#[test]
-fn words_that_are_no_command_are_told(rt: HostRuntime) -> Result<(), Fail> {
-    let alloc = rt.alloc();
-    expect(&rt, alloc, b"", 2, b"usage: word 0\n")?;
-    expect(&rt, alloc, b"ask a.o tag 0 list", 2, b"usage: word 0\n")?;
-    expect(&rt, alloc, b"query", 2, b"usage: word 1\n")?;
-    expect(&rt, alloc, b"query a.o", 2, b"usage: word 2\n")?;
-    expect(&rt, alloc, b"query a.o units", 2, b"usage: word 2\n")?;
-    expect(&rt, alloc, b"query a.o tag", 2, b"usage: word 3\n")
+/// The bytes that a word spells.
+fn bytes_of(alloc: Global, spelled: &[u8]) -> Result<Text, Fail> {
+    let mut out = Text::new(alloc);
+    let mut quoted = false;
+    for piece in spelled.split(|b| *b == b'\'') {
+        if quoted {
+            out.extend(piece)?;
+        } else {
+            put_hex(piece, &mut out)?;
+        }
+        quoted = !quoted;
+    }
+    Ok(out)
 }
 
-#[test]
-fn words_behind_tag_are_told(rt: HostRuntime) -> Result<(), Fail> {
-    let alloc = rt.alloc();
-    expect(&rt, alloc, b"query a.o tag 01 list", 2, b"usage: word 3\n")?;
-    expect(
-        &rt,
-        alloc,
-        b"query a.o tag 4294967296 list",
-        2,
-        b"usage: word 3\n",
-    )?;
-    expect(&rt, alloc, b"query a.o tag x", 2, b"usage: word 3\n")?;
-    expect(&rt, alloc, b"query a.o tag 0", 2, b"usage: word 4\n")?;
-    expect(&rt, alloc, b"query a.o tag 0 list x", 2, b"usage: word 5\n")
-}
+// ---- objects
 
-#[test]
-fn words_that_are_not_utf_8_are_told(rt: HostRuntime) -> Result<(), Fail> {
-    let alloc = rt.alloc();
-    expect(&rt, alloc, b"\xff", 2, b"usage: word 0\n")?;
-    expect(
-        &rt,
-        alloc,
-        b"query \xe9.o tag 0 list",
-        2,
-        b"usage: word 1\n",
-    )?;
-    expect(&rt, alloc, b"query a.o tag 01 \xff", 2, b"usage: word 3\n")?;
-    expect(&rt, alloc, b"query a.o tag 0 \xc3", 2, b"usage: word 4\n")?;
-    expect(
-        &rt,
-        alloc,
-        b"query a.o tag 0 list \xff",
-        2,
-        b"usage: word 5\n",
-    )?;
-    expect(
-        &rt,
-        alloc,
-        b"query \xc3\xa9.o tag 0 list",
-        5,
-        b"absent \\xc3\\xa9.o\n",
-    )
-}
-
-#[test]
-fn a_load_that_fails_is_a_read_fault(rt: HostRuntime) -> Result<(), Fail> {
-    let alloc = rt.alloc();
-    let words = split(alloc, b"query a.o tag 0 list")?;
-    let mut files = MemoryFiles::new(alloc);
-    files.hold(text(alloc, b"a.o")?, object(alloc, NOWHERE, 0)?)?;
-    files.fail_at(0)?;
-    let mut out = MemorySink::new(alloc);
-    assert_eq!(rt; run(alloc, &words, &mut files, &mut out), 6);
-    assert_eq!(rt; out.written(), b"read fault a.o\n".as_slice());
-    assert_eq!(rt; run(alloc, &words, &mut files, &mut out), 0);
+fn put_word(out: &mut Text, big: bool, word: u32) -> Result<(), Fail> {
+    if big {
+        out.extend(&word.to_be_bytes())?;
+    } else {
+        out.extend(&word.to_le_bytes())?;
+    }
     Ok(())
 }
 
-#[test]
-fn a_sink_that_fails_is_a_write_fault(rt: HostRuntime) -> Result<(), Fail> {
-    let alloc = rt.alloc();
-    let words = split(alloc, b"query a.o tag 0 list")?;
-    let mut files = MemoryFiles::new(alloc);
-    files.hold(text(alloc, b"a.o")?, object(alloc, NOWHERE, 0)?)?;
-    let mut out = MemorySink::new(alloc);
-    out.fail_at(0)?;
-    assert_eq!(rt; run(alloc, &words, &mut files, &mut out), 7);
-    assert_eq!(rt; out.written(), b"".as_slice());
+/// The number of bytes, and so many more.
+fn size_of(text: &Text, more: u32) -> u32 {
+    u32::try_from(text.bytes().len())
+        .unwrap_or(0)
+        .wrapping_add(more)
+}
+
+// Text, data and their relocations, each of a field of four bytes.
+fn put_parts(out: &mut Text, big: bool) -> Result<(), Fail> {
+    out.extend(b"\x01\x02\x03\x04\x05\x06\x07\x08")?;
+    if big {
+        out.extend(b"\0\0\0\0\0\0\x04\x40\0\0\0\0\0\0\x06\x40")?;
+    } else {
+        out.extend(b"\0\0\0\0\x04\0\0\x04\0\0\0\0\x06\0\0\x04")?;
+    }
     Ok(())
 }
 
+// The header: four bytes of text, four of data, eight of bss, the machine word 0x64, the entry word 0x1000.
+fn put_header(out: &mut Text, big: bool, entries: u32) -> Result<(), Fail> {
+    for word in [0x0064_0107, 4, 4, 8, entries, 0x1000, 8, 8] {
+        put_word(out, big, word)?;
+    }
+    Ok(())
+}
+
+/// An object with these entries.
+fn object(alloc: Global, big: bool, spelled: &[u8]) -> Result<Text, Fail> {
+    let mut entries = Text::new(alloc);
+    let mut names = Text::new(alloc);
+    for entry in spelled.split(|b| *b == b' ') {
+        if let [high, low, b':', name @ ..] = entry {
+            put_word(&mut entries, big, size_of(&names, 4))?;
+            entries.extend(&[byte_of(&[*high, *low]), 0, 0, 0])?;
+            put_word(&mut entries, big, 0)?;
+            names.extend(name)?;
+            names.push(0)?;
+        }
+    }
+    let mut out = Text::new(alloc);
+    put_header(&mut out, big, size_of(&entries, 0))?;
+    put_parts(&mut out, big)?;
+    out.extend(entries.bytes())?;
+    put_word(&mut out, big, size_of(&names, 4))?;
+    out.extend(names.bytes())?;
+    Ok(out)
+}
+
+// ---- lines
+
+impl Table {
+    fn new(alloc: Global) -> Table {
+        Table {
+            alloc,
+            held: List::new(alloc),
+            failing_files: List::new(alloc),
+            failing_puts: List::new(alloc),
+            label: Text::new(alloc),
+            files: MemoryFiles::new(alloc),
+            status: 0,
+            printed: Text::new(alloc),
+            expected: Text::new(alloc),
+            rows: 0,
+        }
+    }
+
+    fn label(&self) -> &str {
+        from_utf8(self.label.bytes()).unwrap_or("a row")
+    }
+
+    fn hold(&mut self, name: &[u8], bytes: Text) -> Result<(), Fail> {
+        let name = Text::of(self.alloc, name)?;
+        self.held.push(Held { name, bytes })?;
+        Ok(())
+    }
+
+    /// The files so far, with the calls that are to fail.
+    fn make_files(&mut self) -> Result<(), Fail> {
+        self.files = MemoryFiles::new(self.alloc);
+        for held in self.held.items() {
+            self.files
+                .hold(held.name.copy(self.alloc)?, held.bytes.copy(self.alloc)?)?;
+        }
+        for call in self.failing_files.items() {
+            self.files.fail_at(*call)?;
+        }
+        self.failing_files.cut(0);
+        Ok(())
+    }
+
+    /// A sink with the puts that are to fail.
+    fn make_sink(&mut self) -> Result<MemorySink, Fail> {
+        let mut out = MemorySink::new(self.alloc);
+        for call in self.failing_puts.items() {
+            out.fail_at(*call)?;
+        }
+        self.failing_puts.cut(0);
+        Ok(out)
+    }
+
+    fn run(&mut self, line: &[u8]) -> Result<(), Fail> {
+        self.make_files()?;
+        let mut out = self.make_sink()?;
+        let words = words_of(self.alloc, line)?;
+        self.status = run(self.alloc, &words, &mut self.files, &mut out);
+        self.printed = Text::of(self.alloc, out.written())?;
+        Ok(())
+    }
+
+    fn carry(&mut self, line: &[u8]) -> Result<(), Fail> {
+        self.make_files()?;
+        let mut out = self.make_sink()?;
+        let (status, rest) = word(line);
+        let (name, rest) = word(rest);
+        let (bytes, said) = word(rest);
+        let mut text = Text::of(self.alloc, said)?;
+        text.push(b'\n')?;
+        let outcome = Outcome {
+            status: u8::try_from(number_of(10, status)).unwrap_or(0),
+            text,
+            stored: Some(Content {
+                name: Text::of(self.alloc, name)?,
+                bytes: bytes_of(self.alloc, bytes)?,
+            }),
+        };
+        self.status = carry_out(self.alloc, &outcome, &mut self.files, &mut out);
+        self.printed = Text::of(self.alloc, out.written())?;
+        Ok(())
+    }
+
+    /// The bytes of a file behind the run, `absent` where there is none.
+    fn found(&mut self, name: &[u8]) -> Result<Text, Fail> {
+        let name = Text::of(self.alloc, name)?;
+        match self.files.load(self.alloc, name, 1000) {
+            Loaded::Bytes(bytes) => Ok(bytes),
+            _ => Ok(Text::of(self.alloc, b"absent")?),
+        }
+    }
+
+    fn end(&mut self, rt: &impl Abort, status: &[u8]) {
+        assert_eq!(rt;
+            self.printed.bytes(),
+            self.expected.bytes(),
+            "{}",
+            self.label()
+        );
+        assert_eq!(rt;
+            u64::from(self.status),
+            number_of(10, status),
+            "{}",
+            self.label()
+        );
+        self.expected.cut(0);
+        self.rows = self.rows.wrapping_add(1);
+    }
+
+    fn check(&mut self, rt: &impl Abort, kind: &[u8], rest: &[u8]) -> Result<(), Fail> {
+        let (name, bytes) = word(rest);
+        match kind {
+            b"holds" => {
+                let wanted = bytes_of(self.alloc, bytes)?;
+                let found = self.found(name)?;
+                assert_eq!(rt; found.bytes(), wanted.bytes(), "{}", self.label());
+            }
+            b"lacks" => {
+                let found = self.found(name)?;
+                assert_eq!(rt; found.bytes(), b"absent".as_slice(), "{}", self.label());
+            }
+            b"ends" => self.end(rt, rest),
+            b"rows" => assert_eq!(rt; self.rows, number_of(10, rest), "rows"),
+            _ => assert!(rt; kind.is_empty(), "{}", self.label()),
+        }
+        Ok(())
+    }
+
+    fn line(&mut self, rt: &impl Abort, line: &[u8]) -> Result<(), Fail> {
+        let (kind, rest) = word(line);
+        match kind {
+            b"#" => self.label = Text::of(self.alloc, rest)?,
+            b"file" => {
+                let (name, spelled) = word(rest);
+                self.hold(name, bytes_of(self.alloc, spelled)?)?;
+            }
+            b"object" => {
+                let (order, rest) = word(rest);
+                let (name, entries) = word(rest);
+                self.hold(
+                    name,
+                    object(self.alloc, order == b"big".as_slice(), entries)?,
+                )?;
+            }
+            b"files" => self.failing_files.push(number_of(10, rest))?,
+            b"sink" => self.failing_puts.push(number_of(10, rest))?,
+            b"run" => self.run(rest)?,
+            b"carry" => self.carry(rest)?,
+            b">" => {
+                self.expected.extend(rest)?;
+                self.expected.push(b'\n')?;
+            }
+            _ => self.check(rt, kind, rest)?,
+        }
+        Ok(())
+    }
+}
+
 #[test]
-fn sure_files_and_a_sure_sink_are_run_over(rt: HostRuntime) -> Result<(), Fail> {
-    let alloc = rt.alloc();
-    let words = split(alloc, b"query a.o tag 0 list")?;
-    let mut files = SureFiles::new(alloc);
-    files.hold(text(alloc, b"a.o")?, object(alloc, NOWHERE, 0)?)?;
-    let mut out = SureSink::new(alloc);
-    assert_eq!(rt; run(alloc, &words, &mut files, &mut out), 0);
-    assert_eq!(rt; out.written(), LIST);
+fn rows(rt: HostRuntime) -> Result<(), Fail> {
+    let mut table = Table::new(rt.alloc());
+    for line in ROWS.split(|b| *b == b'\n') {
+        table.line(&rt, line)?;
+    }
     Ok(())
 }
 
 #[test]
 fn a_real_file_is_queried(rt: HostRuntime) -> Result<(), Fail> {
     let alloc = rt.alloc();
-    let name = text(alloc, b"queried.o")?;
-    let words = split(alloc, b"query queried.o tag 0 list")?;
+    let name = Text::of(alloc, b"queried.o")?;
+    let words = words_of(alloc, b"query queried.o tag 0 t")?;
     let stream = File::create(&rt, "queried.out")?;
     let mut files = DiskFiles::new(rt.clone()?);
-    let _ = files.store(alloc, &name, &object(alloc, NOWHERE, 0)?);
+    let _ = files.store(alloc, &name, &object(alloc, false, b"64:a.c 80:t:T1=-1;")?);
     let mut out = StreamSink::new(stream);
     assert_eq!(rt; run(alloc, &words, &mut files, &mut out), 0);
-    match files.load(alloc, text(alloc, b"queried.out")?, 1000) {
-        Loaded::Bytes(printed) => assert_eq!(rt; printed.bytes(), LIST),
+    match files.load(alloc, Text::of(alloc, b"queried.out")?, 1000) {
+        Loaded::Bytes(printed) => assert_eq!(rt; printed.bytes(), b"1\n0 T t -1;\n".as_slice()),
         _ => assert!(rt; false, "what was printed cannot be loaded"),
     }
     fs::remove_file(&rt, "queried.o")?;
     fs::remove_file(&rt, "queried.out")?;
+    Ok(())
+}
+
+#[test]
+fn files_that_never_fail_are_queried(rt: HostRuntime) -> Result<(), Fail> {
+    let alloc = rt.alloc();
+    let words = words_of(alloc, b"query x.o tag 0 t")?;
+    let mut files = SureFiles::new(alloc);
+    files.hold(
+        Text::of(alloc, b"x.o")?,
+        object(alloc, true, b"64:a.c 80:t:T1=-1;")?,
+    )?;
+    let mut out = SureSink::new(alloc);
+    assert_eq!(rt; run_surely(alloc, &words, &mut files, &mut out), 0);
+    assert_eq!(rt; out.written(), b"1\n0 T t -1;\n".as_slice());
     Ok(())
 }

@@ -1,103 +1,142 @@
-ghost use Rattle.std.specs.Prelude.{◌≡◌, position};
+//! What the places of a command's words want, and where words are not what is wanted.
+
+ghost use Rattle.std.specs.Prelude.{◌≡◌, IfOk};
 ghost use Rattle.stabs_tool.specs.Words as spec;
 
 use readers::whole_number;
-use st_base::Text;
+use st_base::{Memory, Text};
+use std::alloc::Global;
 use std::str::from_utf8;
 
-/// What the words ask, the operands by their places.
+/// A word that stands in commands as it is.
 #[derive(Clone, Copy, Debug, Drop, PartialEq, Eq)]
-pub enum Command {
-    /// `query FILE tag U NAME`, with the number U; FILE is word 1 and NAME is word 4.
-    TagNamed(u32),
-    /// No command: the place of the first wrong word, of the first one too many, or the number of words
-    /// where one is missing.
-    Wrong(usize),
+pub enum Keyword {
+    Query,
+    Tag,
 }
 
-fn from_name(unit: Option<u32>, words: &[Text]) -> Command
-    ensures { result ≡ spec.from_name unit words.now }
+/// What a word of a command is to the command.
+#[derive(Clone, Copy, Debug, Drop, PartialEq, Eq)]
+pub enum Operand {
+    /// FILE, the file that is read.
+    File,
+    /// U, the number of a unit.
+    Unit,
+    /// NAME, that of a tag.
+    Name,
+}
+
+/// What a place of a command's words wants. Wherever it stands, a word that is not UTF-8 is not wanted.
+#[derive(Clone, Copy, Debug, Drop, PartialEq, Eq)]
+pub enum Want {
+    /// This word.
+    This(Keyword),
+    /// Any word, as this operand.
+    Any(Operand),
+    /// A decimal number without a leading zero, at most so great, as this operand.
+    Number(Operand, u32),
+}
+
+/// The bytes of a keyword. Takes no memory.
+fn keyword_text(keyword: Keyword) -> &'static [u8]
+    ensures { result.now ≡ spec.keyword_text keyword }
 {
-    match unit {
-        None => Command::Wrong(3),
-        Some(number) => match words {
-            [] => Command::Wrong(4),
-            [_] => Command::TagNamed(number),
-            [_, _, ..] => Command::Wrong(5),
-        },
+    match keyword {
+        Keyword::Query => b"query",
+        Keyword::Tag => b"tag",
     }
 }
 
-fn from_unit(words: &[Text]) -> Command
-    ensures { result ≡ spec.from_unit words.now }
+fn is_text(word: &Text) -> bool
+    ensures { result ≡ spec.is_text word.now }
 {
-    match words {
-        [] => Command::Wrong(3),
-        [unit, rest @ ..] => from_name(whole_number(u32::MAX, unit.bytes()), rest),
+    from_utf8(word.bytes()).is_ok()
+}
+
+fn is_number(most: u32, word: &Text) -> bool
+    ensures { result ≡ spec.is_number most word.now }
+{
+    match whole_number(u32::MAX, word.bytes()) {
+        Some(number) => number <= most,
+        None => false,
     }
 }
 
-fn from_tag(words: &[Text]) -> Command
-    ensures { result ≡ spec.from_tag words.now }
+fn is_wanted(want: Want, word: &Text) -> bool
+    ensures { result ≡ spec.is_wanted want word.now }
 {
-    match words {
-        [] => Command::Wrong(2),
-        [word, rest @ ..] => {
-            if word.bytes() == b"tag".as_slice() {
-                from_unit(rest)
-            } else {
-                Command::Wrong(2)
-            }
+    match want {
+        Want::This(keyword) => word.bytes() == keyword_text(keyword),
+        Want::Any(_) => true,
+        Want::Number(_, most) => is_number(most, word),
+    }
+}
+
+fn holds(want: Want, word: &Text) -> bool
+    ensures { result ≡ spec.holds want word.now }
+{
+    is_text(word) && is_wanted(want, word)
+}
+
+/// The first place whose word is not what is wanted there, the number of words where one is missing, or the place of the first
+/// word too many; `None` where the words are what the places want. Takes no memory.
+pub fn wrong_place(places: &[Want], words: &[Text]) -> Option<usize>
+    ensures { result ≡ spec.wrong_place places.now words.now }
+{
+    for (at, want) in places.iter().enumerate() {
+        match words.get(at) {
+            None => return Some(at),
+            Some(word) if holds(*want, word) => {}
+            Some(_) => return Some(at),
         }
     }
-}
-
-fn from_file(words: &[Text]) -> Command
-    ensures { result ≡ spec.from_file words.now }
-{
-    match words {
-        [] => Command::Wrong(1),
-        [_, rest @ ..] => from_tag(rest),
+    if places.len() < words.len() {
+        Some(places.len())
+    } else {
+        None
     }
 }
 
-fn from_words(words: &[Text]) -> Command
-    ensures value { result ≡ spec.from_words words.now }
-    ensures within { spec.IsWithin result words.now }
+fn is_operand(operand: Operand, want: Want) -> bool
+    ensures { result ≡ spec.is_operand operand want }
 {
-    match words {
-        [] => Command::Wrong(0),
-        [word, rest @ ..] => {
-            if word.bytes() == b"query".as_slice() {
-                from_file(rest)
-            } else {
-                Command::Wrong(0)
-            }
+    match want {
+        Want::This(_) => false,
+        Want::Any(other) => operand == other,
+        Want::Number(other, _) => operand == other,
+    }
+}
+
+/// The word that is this operand; empty where no place wants it. Takes no memory.
+fn word_of<'a>(places: &[Want], words: &'a [Text], operand: Operand) -> &'a [u8]
+    ensures { result.now ≡ spec.word_of operand places.now words.now }
+{
+    for (at, want) in places.iter().enumerate() {
+        if is_operand(operand, *want) {
+            return match words.get(at) {
+                Some(word) => word.bytes(),
+                None => &[],
+            };
         }
     }
+    &[]
 }
 
-fn is_no_text(word: &Text) -> bool
-    ensures { result ≡ spec.is_no_text word.now }
+/// A copy of the word that is this operand.
+pub fn text_of(
+    alloc: Global,
+    places: &[Want],
+    words: &[Text],
+    wanted: Operand,
+) -> Result<Text, Memory>
+    ensures { IfOk result (λ t. t ≡ spec.word_of wanted places.now words.now) }
 {
-    from_utf8(word.bytes()).is_err()
+    Text::of(alloc, word_of(places, words, wanted))
 }
 
-/// The place of the first word that is not UTF-8.
-fn first_no_text(words: &[Text]) -> Option<usize>
-    ensures { result ≡ position spec.is_no_text words.now }
+/// The number that the word of this operand spells; 0 where it spells none. Takes no memory.
+pub fn number_of(places: &[Want], words: &[Text], wanted: Operand) -> u32
+    ensures { result ≡ spec.number_of (spec.word_of wanted places.now words.now) }
 {
-    words.iter().position(is_no_text)
-}
-
-/// What the words ask. A word that is not UTF-8 is wrong wherever it stands. Takes no memory.
-pub fn read_command(words: &[Text]) -> Command
-    ensures value { result ≡ spec.command_of words.now }
-    ensures within { spec.IsWithin result words.now }
-{
-    match (first_no_text(words), from_words(words)) {
-        (None, command) => command,
-        (Some(place), Command::Wrong(word)) if word <= place => Command::Wrong(word),
-        (Some(place), _) => Command::Wrong(place),
-    }
+    whole_number(u32::MAX, word_of(places, words, wanted)).unwrap_or(0)
 }

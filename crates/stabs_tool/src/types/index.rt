@@ -1,25 +1,28 @@
-ghost use Rattle.std.specs.Prelude.{◌≡◌, ℕ, IfOk, OnOk, flat_map};
+ghost use Rattle.std.specs.Prelude.{◌≡◌, ℕ, IfOk, OnOk};
 ghost use Rattle.std.specs.Option.{option_copied};
-ghost use Rattle.stab_grammar.specs.Definitions.{definitions_in};
-ghost use Rattle.stabs_tool.specs.Indexes.{IsIndex, body_in, looked_up, main_key, noted, noted_all};
-ghost use Rattle.stabs_tool.specs.Searches.{defined, definitions_in_field};
+ghost use Rattle.stab_grammar.specs.Definitions as grammar;
+ghost use Rattle.stabs_tool.specs.Indexes.{IsIndex, body_in, looked_up, main_key, noted};
 
-use crate::types::definitions::is_cross;
 use crate::types::unit::Unit;
-use st_base::{List, Memory};
-use stab_grammar::{Field, Key, Num, TypeTree, key_of};
+use st_base::Memory;
+use stab_grammar::{DefinitionVisitor, Key, TypeTree, visit_definitions};
 use std::alloc::Global;
 use std::collections::BTreeMap;
+
+fn is_cross(tree: &TypeTree) -> bool
+    ensures { result ≡ grammar.is_cross tree.now }
+{
+    matches!(tree, TypeTree::Cross(_, _))
+}
 
 // A definition counts where there was none before, or only a cross reference where it is none.
 fn note<'a>(
     index: &mut BTreeMap<u32, &'a TypeTree>,
-    num: &Num,
+    key: Key,
     body: &'a TypeTree,
 ) -> Result<(), Memory>
-    ensures { OnOk result ((n : ℕ) → body_in index.new n ≡ noted (main_key n) (body_in index.old n) (defined num.now body.now)) }
+    ensures { OnOk result ((n : ℕ) → body_in index.new n ≡ noted (main_key n) (body_in index.old n) (record { key = key; body = body.now })) }
 {
-    let key = key_of(num);
     if key.file != 0 {
         return Ok(());
     }
@@ -33,70 +36,39 @@ fn note<'a>(
     Ok(())
 }
 
-// All definitions in a type, outermost first and from left to right.
-#[cycle(noted)]
-fn note_in<'a>(index: &mut BTreeMap<u32, &'a TypeTree>, tree: &'a TypeTree) -> Result<(), Memory>
-    ensures { OnOk result ((n : ℕ) → body_in index.new n ≡ noted_all (main_key n) (body_in index.old n) (definitions_in tree.now)) }
-{
-    match tree {
-        TypeTree::Def(num, body) => {
-            let body = body.get();
-            note(index, num, body)?;
-            note_in(index, body)
-        }
-        TypeTree::Pointer(inner) => note_in(index, inner.get()),
-        TypeTree::Function(inner) => note_in(index, inner.get()),
-        TypeTree::Const(inner) => note_in(index, inner.get()),
-        TypeTree::Volatile(inner) => note_in(index, inner.get()),
-        TypeTree::Range(inner, _, _) => note_in(index, inner.get()),
-        TypeTree::Array(place, _, _, item) => {
-            note_in(index, place.get())?;
-            note_in(index, item.get())
-        }
-        TypeTree::Struct(_, fields) => note_in_fields(index, fields),
-        TypeTree::Union(_, fields) => note_in_fields(index, fields),
-        TypeTree::Sized(_, inner) => note_in(index, inner.get()),
-        TypeTree::Ref(_)
-        | TypeTree::Enum(_)
-        | TypeTree::Cross(_, _)
-        | TypeTree::Builtin(_)
-        | TypeTree::Real(_, _, _) => Ok(()),
+// The index as it grows by one definition after another.
+#[derive(Drop)]
+struct Noting<'a> {
+    index: BTreeMap<u32, &'a TypeTree>,
+}
+
+impl<'a> DefinitionVisitor<&'a TypeTree> for Noting<'a> {
+    ghost use Rattle.stabs_tool.specs.Indexes.{Notes};
+
+    type Stop = Memory;
+
+    ghost visits = { Notes };
+
+    fn visit(&mut self, key: Key, body: &'a TypeTree) -> Result<(), Memory> {
+        note(&mut self.index, key, body)
     }
 }
 
-#[cycle(noted)]
-fn note_in_field<'a>(
-    index: &mut BTreeMap<u32, &'a TypeTree>,
-    field: &'a Field,
-) -> Result<(), Memory>
-    ensures { OnOk result ((n : ℕ) → body_in index.new n ≡ noted_all (main_key n) (body_in index.old n) (definitions_in_field field.now)) }
-{
-    note_in(index, &field.tree)
-}
-
-#[cycle(noted)]
-fn note_in_fields<'a>(
-    index: &mut BTreeMap<u32, &'a TypeTree>,
-    fields: &'a List<Field>,
-) -> Result<(), Memory>
-    ensures { OnOk result ((n : ℕ) → body_in index.new n ≡ noted_all (main_key n) (body_in index.old n) (flat_map definitions_in_field fields.now)) }
-{
-    let fields = fields.items();
-    for field in fields {
-        note_in_field(index, field)?;
-    }
-    Ok(())
-}
-
-/// The definitions of a unit by their numbers of file 0, each as `definition` finds it.
+/// The definitions of a unit by their numbers of file 0: of all definitions of a number, in the order of the symbols and in each
+/// outermost first and from left to right, the first that is no cross reference, or else the first.
+///
+/// After "The stabs debug format", on type numbers and cross references; the order of the search is this project's own.
 pub fn index<'a>(alloc: Global, unit: &'a Unit) -> Result<BTreeMap<u32, &'a TypeTree>, Memory>
     ensures { IfOk result (IsIndex unit.now) }
 {
-    let mut index = BTreeMap::new(alloc);
+    let mut noting = Noting {
+        index: BTreeMap::new(alloc),
+    };
     let symbols = unit.symbols.items();
     for symbol in symbols {
-        note_in(&mut index, &symbol.tree)?;
+        visit_definitions(&symbol.tree, &mut noting)?;
     }
+    let Noting { index } = noting;
     Ok(index)
 }
 

@@ -2,7 +2,7 @@ ghost use Rattle.std.specs.Prelude.{◌≡◌, ◌<◌, [], OnOk, Some, length, 
 ghost use Rattle.stabs_tool.specs.KeyLists.{added};
 
 use st_base::{List, Memory};
-use stab_grammar::Key;
+use stab_grammar::{Key, Num, NumberVisitor, key_of};
 use std::alloc::Global;
 use std::collections::BTreeSet;
 use std::marker::Model;
@@ -72,5 +72,17 @@ impl KeySet {
     {
         let KeySet { keys, seen: _ } = self;
         keys
+    }
+}
+
+impl NumberVisitor for KeySet {
+    ghost use Rattle.stabs_tool.specs.KeyLists.{Adds};
+
+    type Stop = Memory;
+
+    ghost visits = { Adds };
+
+    fn visit(&mut self, num: Num) -> Result<(), Memory> {
+        self.add(key_of(&num))
     }
 }

@@ -2,7 +2,7 @@ ghost use Rattle.std.specs.Prelude.{◌≡◌, ℕ, IfOk, OnOk};
 ghost use Rattle.std.specs.Option.{option_copied};
 ghost use Rattle.stabs_tool.specs.Indexes.{AreNames, main_key, named, named_by, symbol_in};
 
-use crate::types::definitions::{is_type_symbol, outer_key};
+use crate::types::symbols::{is_type_symbol, outer_key};
 use crate::types::unit::Unit;
 use st_base::Memory;
 use stab_grammar::{Key, Symbol};

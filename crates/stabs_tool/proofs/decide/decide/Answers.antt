@@ -1,7 +1,8 @@
-use Rattle.std.proofs.Common.{sym, ap, ◌∙◌}
-use Rattle.stabs_tool.specs.Words.{command_of}
-use Rattle.stabs_tool.proofs.Decides.{by_usage}
+use Rattle.std.proofs.Common.{ap, sym, ◌∙◌}
+use Rattle.stabs_tool.specs.Commands.{asked}
+use Rattle.stabs_tool.proofs.Decisions.{by_usage}
 use Rattle.stabs_tool.proofs.decide.decide.Goals as goal
 
 pub returns-in-Wrong-clause-answer : goal.returns-in-Wrong-clause-answer
-returns-in-Wrong-clause-answer g c = by_usage _ _ _ _ _ c.in-Wrong.word _ (sym (c.in-Wrong.ensures.value ∙ ap command_of c.items.ensures)) c.usage.ensures
+returns-in-Wrong-clause-answer g c =
+    by_usage _ _ _ c.in-Wrong.at _ (sym c.in-Wrong.is ∙ c.in_ok-asked.ensures ∙ ap asked c.items.ensures) c.usage.ensures

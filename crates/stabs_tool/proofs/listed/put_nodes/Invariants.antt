@@ -1,5 +1,5 @@
 use Rattle.std.proofs.Common.{◌≡◌, ◌++◌, drop}
-use Rattle.stabs_tool.specs.Replies.{node_lines}
+use Rattle.stabs_tool.specs.Listed.{node_lines}
 use Rattle.stabs_tool.proofs.listed.put_nodes.Given as goal
 
 -- the lines so far and those still to come are all lines

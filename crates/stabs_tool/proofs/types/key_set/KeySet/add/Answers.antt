@@ -2,7 +2,8 @@ use Rattle.std.proofs.Common.{◌≡◌, Bool, true, false, List, sym, ap, ◌�
 use Rattle.std.specs.BTreeMap.{is_at}
 use Rattle.std.specs.BTreeSet.{contains}
 use Rattle.stab_grammar.specs.declared.tree.Key.{Key}
-use Rattle.stabs_tool.specs.KeyLists.{has, key_order}
+use Rattle.stab_grammar.specs.Surface.{key_order}
+use Rattle.stabs_tool.specs.KeyLists.{has}
 use Rattle.stabs_tool.proofs.KeyListLemmas.{given_back}
 use Rattle.stabs_tool.proofs.types.key_set.KeySet.add.Goals as goal
 

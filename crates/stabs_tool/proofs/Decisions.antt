@@ -1,0 +1,285 @@
+-- What was replied is decided on, with its causes: for words that are no command, and for a command by what its inputs came to.
+use Rattle.std.proofs.Common.{◌≡◌, ◌≢◌, ℕ, zero, suc, ◌⊎◌, inl, inr, true, List, Option, Some, None, Result, Ok, Err, refl, sym, ap, subst, ◌∙◌}
+use Rattle.std.specs.Prelude.{IfOk, IfSome}
+use Rattle.std.proofs.lemmas.List.Elements.{Contains-get_or}
+use Rattle.outside.specs.Causes.{Contents}
+use Rattle.st_base.specs.Number.{IsBytes}
+use Rattle.st_base.specs.declared.fault.Fault.{Fault}
+use Rattle.st_base.specs.declared.sizes.TheConstants.{FILE_LIMIT}
+use Rattle.aout_object.specs.Objects.{ObjectSpells}
+use Rattle.aout_object.specs.Objects.{Contents as Object}
+use Rattle.aout_object.specs.Checks.{FileFault}
+use Rattle.stabs_tool.specs.declared.command.Query.{Query}
+use Rattle.stabs_tool.specs.declared.command.Query.TheVariants.{TagNamed}
+use Rattle.stabs_tool.specs.declared.command.Command.{Command}
+use Rattle.stabs_tool.specs.declared.command.Command.TheVariants as commands
+use Rattle.stabs_tool.specs.declared.command.Asked.{Asked}
+use Rattle.stabs_tool.specs.declared.command.Asked.TheVariants as asks
+use Rattle.stabs_tool.specs.declared.inputs.Cause.TheVariants as cause
+use Rattle.stabs_tool.specs.declared.inputs.Inputs.{Inputs}
+use Rattle.stabs_tool.specs.declared.inputs.Inputs.TheVariants.{All, Fault as Faulty, TooMuch}
+use Rattle.stabs_tool.specs.declared.outcome.Content.{Content}
+use Rattle.stabs_tool.specs.declared.outcome.Outcome.{Outcome}
+use Rattle.stabs_tool.specs.declared.outcome.TheConstants.{DONE, USAGE, REFUSED, ABSENT, READ_FAULT, WRITE_FAULT, NO_MEMORY, LIMIT}
+use Rattle.stabs_tool.specs.declared.types.unit.Unit.{Unit as UnitOf}
+use Rattle.stabs_tool.specs.Commands.{inputs_of, most_of, IsRead, IsWritten, IsWrong}
+use Rattle.stabs_tool.specs.Words.{first}
+use Rattle.stabs_tool.specs.Outcomes.{printed, usage, absent, read_fault, limit, refused, nothing, is_status}
+use Rattle.stabs_tool.specs.Causes.{FilesSeen}
+use Rattle.stabs_tool.specs.Inputs.{loaded_inputs, HasCause, IsFailed, IsPlaced, name_at}
+use Rattle.stabs_tool.specs.Deciding.{Decided}
+use Rattle.stabs_tool.specs.Replies.{RepliesOnTag, RepliesInUnit, RepliesOnUnit, RepliesOnObject, RepliesOnBytes, Answers, RepliesTo, Means}
+
+-- ---- outcomes of one line
+
+-- the outcome has this status, and stores nothing
+pub record Prints (status : ℕ) (o : Outcome) : Type 0 where
+  pub answers : o.status ≡ status
+  pub alone : o.stored ≡ None
+
+prints_of : (status : ℕ) (text : List ℕ) → Prints status (printed status text)
+prints_of status text = record { answers = refl; alone = refl }
+
+pub prints_usage : (at : ℕ) → Prints USAGE (usage at)
+unfolding usage
+prints_usage at = prints_of USAGE _
+
+pub prints_absent : (name : List ℕ) → Prints ABSENT (absent name)
+unfolding absent
+prints_absent name = prints_of ABSENT _
+
+pub prints_read_fault : (name : List ℕ) → Prints READ_FAULT (read_fault name)
+unfolding read_fault
+prints_read_fault name = prints_of READ_FAULT _
+
+pub prints_limit : (most : ℕ) → Prints LIMIT (limit most)
+unfolding limit
+prints_limit most = prints_of LIMIT _
+
+pub prints_refused : (name : List ℕ) (f : Fault) → Prints REFUSED (refused name f)
+unfolding refused
+prints_refused name f = prints_of REFUSED _
+
+pub prints_nothing : Prints DONE nothing
+unfolding nothing
+prints_nothing = prints_of DONE _
+
+-- ---- outcomes that need no cause
+
+-- the outcome has a status that needs no cause, and stores nothing
+record IsPlain (o : Outcome) : Type 0 where
+  pub status : is_status o.status ≡ true
+  pub alone : o.stored ≡ None
+  pub not_usage : o.status ≢ USAGE
+  pub not_absent : o.status ≢ ABSENT
+  pub not_read : o.status ≢ READ_FAULT
+  pub not_write : o.status ≢ WRITE_FAULT
+  pub not_memory : o.status ≢ NO_MEMORY
+
+plain_done : (o : Outcome) → Prints DONE o → IsPlain o
+plain_done o p = record {
+  status = ap is_status p.answers;
+  alone = p.alone;
+  not_usage = λ e. let k = sym p.answers ∙ e in absurd cc;
+  not_absent = λ e. let k = sym p.answers ∙ e in absurd cc;
+  not_read = λ e. let k = sym p.answers ∙ e in absurd cc;
+  not_write = λ e. let k = sym p.answers ∙ e in absurd cc;
+  not_memory = λ e. let k = sym p.answers ∙ e in absurd cc;
+}
+
+plain_refused : (o : Outcome) → Prints REFUSED o → IsPlain o
+plain_refused o p = record {
+  status = ap is_status p.answers;
+  alone = p.alone;
+  not_usage = λ e. let k = sym p.answers ∙ e in absurd cc;
+  not_absent = λ e. let k = sym p.answers ∙ e in absurd cc;
+  not_read = λ e. let k = sym p.answers ∙ e in absurd cc;
+  not_write = λ e. let k = sym p.answers ∙ e in absurd cc;
+  not_memory = λ e. let k = sym p.answers ∙ e in absurd cc;
+}
+
+plain_limit : (o : Outcome) → Prints LIMIT o → IsPlain o
+plain_limit o p = record {
+  status = ap is_status p.answers;
+  alone = p.alone;
+  not_usage = λ e. let k = sym p.answers ∙ e in absurd cc;
+  not_absent = λ e. let k = sym p.answers ∙ e in absurd cc;
+  not_read = λ e. let k = sym p.answers ∙ e in absurd cc;
+  not_write = λ e. let k = sym p.answers ∙ e in absurd cc;
+  not_memory = λ e. let k = sym p.answers ∙ e in absurd cc;
+}
+
+on_tag_plain : (unit : UnitOf) (tag : List ℕ) (o : Outcome) → RepliesOnTag unit tag o → IsPlain o
+on_tag_plain unit tag o (inl h) = subst IsPlain (sym h.1) (plain_done nothing prints_nothing)
+on_tag_plain unit tag o (inr h) = subst IsPlain (sym h.4) (plain_done (printed DONE _) (prints_of DONE _))
+
+in_unit_plain : (unit : UnitOf) (number : ℕ) (tag : List ℕ) (o : Outcome) → RepliesInUnit unit number tag o → IsPlain o
+in_unit_plain unit zero tag o h = on_tag_plain unit tag o h
+in_unit_plain unit (suc number) tag o h = subst IsPlain (sym h) (plain_done nothing prints_nothing)
+
+on_unit_plain : (query : Query) (unit : UnitOf) (o : Outcome) → RepliesOnUnit query unit o → IsPlain o
+on_unit_plain (TagNamed number tag) unit o h = in_unit_plain unit number tag o h
+
+refused_plain : (name : List ℕ) (f : Fault) (o : Outcome) → o ≡ refused name f → IsPlain o
+refused_plain name f o h = subst IsPlain (sym h) (plain_refused (refused name f) (prints_refused name f))
+
+bytes_plain : (name : List ℕ) (query : Query) (bytes : List ℕ) (o : Outcome) → RepliesOnBytes name query bytes o → IsPlain o
+bytes_plain name query bytes o (are, inl (object, spells, inl h)) = on_unit_plain query h.0 o h.2
+bytes_plain name query bytes o (are, inl (object, spells, inr h)) = refused_plain name h.0 o h.2
+bytes_plain name query bytes o (are, inr h) = refused_plain name h.0 o h.2
+
+answers_plain : (command : Command) (texts : List (List ℕ)) (o : Outcome) → Answers command texts o → IsPlain o
+answers_plain (commands.Query file query) texts o h = bytes_plain file query (first texts) o h
+
+-- where nothing is stored, what is stored has any name
+unnamed : (P : List ℕ → Type 0) (content : Option Content) → content ≡ None → IfSome content (λ c. P c.name)
+unnamed P (Some c) e = absurd cc
+unnamed P None e = tt
+
+-- what is decided on, the files being f before and g after it
+abbrev pub IsDecided : Asked → FilesSeen → FilesSeen → Outcome → Type 0
+IsDecided asked f g o = Decided (Means asked) (IsRead asked) (IsWritten asked) (IsWrong asked) f g o
+
+-- ---- words that are no command
+
+usage_decided : (f g : FilesSeen) (at : ℕ) → IsDecided (asks.Wrong at) f g (usage at)
+usage_decided f g at =
+    let p = prints_usage at in
+    record {
+      defined = λ _ m told. refl;
+      read = λ e. let k = sym p.answers ∙ e in absurd cc;
+      lacks = λ e. let k = sym p.answers ∙ e in absurd cc;
+      usage_alone = λ e. (at, refl, refl);
+      wrong = λ other w. p.answers;
+      status = ap is_status p.answers;
+      not_write = λ e. let k = sym p.answers ∙ e in absurd cc;
+      not_memory = λ e. let k = sym p.answers ∙ e in absurd cc;
+      stored_alone = λ _. p.alone;
+      stored_name = unnamed (IsWritten (asks.Wrong at)) (usage at).stored p.alone;
+    }
+
+pub by_usage : {E : Type 0} (f g : FilesSeen) (asked : Asked) (at : ℕ) (res : Result Outcome E) → asks.Wrong at ≡ asked → IfOk res (λ o. o ≡ usage at) → IfOk res (IsDecided asked f g)
+by_usage f g asked at (Err e) is said = tt
+by_usage f g asked at (Ok o) is said = subst (λ (a : Asked). IsDecided a f g o) is (subst (IsDecided (asks.Wrong at) f g) (sym said) (usage_decided f g at))
+
+-- ---- a command
+
+module _ (command : Command) where
+  abbrev names : List (List ℕ)
+  names = inputs_of command
+
+  abbrev wanted : Contents → Inputs
+  wanted m = loaded_inputs m (most_of command) FILE_LIMIT names
+
+  abbrev Told : FilesSeen → Inputs → Type 0
+  Told f inputs = (m : Contents) → f.held ≡ Some m → IsFailed inputs ⊎ (inputs ≡ wanted m)
+
+  module _ (f g : FilesSeen) where
+    abbrev Goal : Outcome → Type 0
+    Goal o = IsDecided (asks.Command command) f g o
+
+    -- what was replied on the inputs is defined, where no load failed
+    means : (inputs : Inputs) (o : Outcome) → Told f inputs → ¬ (IsFailed inputs) → RepliesTo command inputs o → (m : Contents) → f.held ≡ Some m → Means (asks.Command command) m o
+    means inputs o t well r m told = by_told (t m told) where
+      by_told : IsFailed inputs ⊎ (inputs ≡ wanted m) → Means (asks.Command command) m o
+      by_told (inl failed) = absurd (well failed)
+      by_told (inr e) = subst (λ (z : Inputs). RepliesTo command z o) e r
+
+    plain : (inputs : Inputs) (o : Outcome) → IsPlain o → Told f inputs → ¬ (IsFailed inputs) → RepliesTo command inputs o → Goal o
+    plain inputs o p t well r = record {
+      defined = λ _. means inputs o t well r;
+      read = λ e. absurd (p.not_read e);
+      lacks = λ e. absurd (p.not_absent e);
+      usage_alone = λ e. absurd (p.not_usage e);
+      wrong = λ at w. absurd w;
+      status = p.status;
+      not_write = p.not_write;
+      not_memory = p.not_memory;
+      stored_alone = λ _. p.alone;
+      stored_name = unnamed (IsWritten (asks.Command command)) o.stored p.alone;
+    }
+
+    absent_decided : (at : ℕ) → Told f (Faulty at cause.Absent) → HasCause f.held f.loads g.loads g.last names (Faulty at cause.Absent) → Goal (absent (name_at names at))
+    absent_decided at t h =
+        let p = prints_absent (name_at names at) in
+        record {
+          defined = λ _. means (Faulty at cause.Absent) (absent (name_at names at)) t (λ x. x) refl;
+          read = λ e. let k = sym p.answers ∙ e in absurd cc;
+          lacks = λ e. (name_at names at, Contains-get_or names at _ h.0, refl, h.1);
+          usage_alone = λ e. let k = sym p.answers ∙ e in absurd cc;
+          wrong = λ at w. absurd w;
+          status = ap is_status p.answers;
+          not_write = λ e. let k = sym p.answers ∙ e in absurd cc;
+          not_memory = λ e. let k = sym p.answers ∙ e in absurd cc;
+          stored_alone = λ _. p.alone;
+          stored_name = unnamed (IsWritten (asks.Command command)) (absent (name_at names at)).stored p.alone;
+        }
+
+    failed_decided : (at : ℕ) → HasCause f.held f.loads g.loads g.last names (Faulty at cause.Failed) → Goal (read_fault (name_at names at))
+    failed_decided at h =
+        let p = prints_read_fault (name_at names at) in
+        record {
+          defined = λ other. absurd (other p.answers);
+          read = λ e. (h.1, (name_at names at, h.2, Contains-get_or names at _ h.0, refl));
+          lacks = λ e. let k = sym p.answers ∙ e in absurd cc;
+          usage_alone = λ e. let k = sym p.answers ∙ e in absurd cc;
+          wrong = λ at w. absurd w;
+          status = ap is_status p.answers;
+          not_write = λ e. let k = sym p.answers ∙ e in absurd cc;
+          not_memory = λ e. let k = sym p.answers ∙ e in absurd cc;
+          stored_alone = λ _. p.alone;
+          stored_name = unnamed (IsWritten (asks.Command command)) (read_fault (name_at names at)).stored p.alone;
+        }
+
+    by_inputs : (inputs : Inputs) → Told f inputs → HasCause f.held f.loads g.loads g.last names inputs → (o : Outcome) → RepliesTo command inputs o → Goal o
+    by_inputs (All texts) t h o r = plain (All texts) o (answers_plain command texts o r) t (λ x. x) r
+    by_inputs (Faulty at cause.Absent) t h o r = subst Goal (sym r) (absent_decided at t h)
+    by_inputs (Faulty at cause.Long) t h o r = plain (Faulty at cause.Long) o (subst IsPlain (sym r) (plain_limit (limit (most_of command)) (prints_limit (most_of command)))) t (λ x. x) r
+    by_inputs (Faulty at cause.Failed) t h o r = subst Goal (sym r) (failed_decided at h)
+    by_inputs TooMuch t h o r = plain TooMuch o (subst IsPlain (sym r) (plain_limit (limit FILE_LIMIT) (prints_limit FILE_LIMIT))) t (λ x. x) r
+
+    by_result : {E : Type 0} (inputs : Inputs) (res : Result Outcome E) → Told f inputs → HasCause f.held f.loads g.loads g.last names inputs → IfOk res (RepliesTo command inputs) → IfOk res Goal
+    by_result inputs (Err e) t h r = tt
+    by_result inputs (Ok o) t h r = by_inputs inputs t h o r
+
+    -- the names that were loaded are the command's, and so is the most that each of them may have
+    pub decided_of : {E : Type 0} (loaded : List (List ℕ)) (most : ℕ) → loaded ≡ names → most ≡ most_of command → (inputs : Inputs) (res : Result Outcome E)
+        → ((m : Contents) → f.held ≡ Some m → IsFailed inputs ⊎ (inputs ≡ loaded_inputs m most FILE_LIMIT loaded))
+        → HasCause f.held f.loads g.loads g.last loaded inputs → IfOk res (RepliesTo command inputs) → IfOk res Goal
+    decided_of loaded most same size inputs res t h r = by_result inputs res
+        (λ m told. subst (λ (z : ℕ). IsFailed inputs ⊎ (inputs ≡ loaded_inputs m z FILE_LIMIT names)) size
+        (subst (λ (z : List (List ℕ)). IsFailed inputs ⊎ (inputs ≡ loaded_inputs m most FILE_LIMIT z)) same (t m told)))
+        (subst (λ (z : List (List ℕ)). HasCause f.held f.loads g.loads g.last z inputs) same h)
+        r
+
+-- the place of a fault is that of a name
+pub placed_of : (held : Option Contents) (before now : ℕ) (last : Option (List ℕ)) (loaded : List (List ℕ)) (inputs : Inputs) → HasCause held before now last loaded inputs → IsPlaced loaded inputs
+placed_of held before now last loaded (All texts) h = tt
+placed_of held before now last loaded (Faulty at cause.Absent) h = h.0
+placed_of held before now last loaded (Faulty at cause.Long) h = h
+placed_of held before now last loaded (Faulty at cause.Failed) h = h.0
+placed_of held before now last loaded TooMuch h = tt
+
+-- ---- what is replied on the bytes of a file
+
+-- the reply on the object that the bytes spell
+pub by_object : {E : Type 0} (name : List ℕ) (query : Query) (bytes : List ℕ) (object : Object) (res : Result Outcome E)
+    → IsBytes bytes → ObjectSpells object bytes → IfOk res (RepliesOnObject name query object) → IfOk res (RepliesOnBytes name query bytes)
+by_object name query bytes object (Err e) are spells said = tt
+by_object name query bytes object (Ok o) are spells said = (are, inl ((object, spells, said)))
+
+-- the refusal of the bytes
+pub by_fault : {E : Type 0} (name : List ℕ) (query : Query) (bytes : List ℕ) (f : Fault) (res : Result Outcome E)
+    → IsBytes bytes → FileFault bytes f → IfOk res (λ o. o ≡ refused name f) → IfOk res (RepliesOnBytes name query bytes)
+by_fault name query bytes f (Err e) are is said = tt
+by_fault name query bytes f (Ok o) are is said = (are, inr ((f, is, said)))
+
+-- the same bytes
+pub same_bytes : {E : Type 0} (name : List ℕ) (query : Query) (bytes read : List ℕ) (res : Result Outcome E) → read ≡ bytes → IfOk res (RepliesOnBytes name query read) → IfOk res (RepliesOnBytes name query bytes)
+same_bytes name query bytes read res same said = subst (λ (z : List ℕ). IfOk res (RepliesOnBytes name query z)) same said
+
+-- the reply to a query is the answer to its command
+pub by_query : {E : Type 0} (command : Command) (name : List ℕ) (query : Query) (texts : List (List ℕ)) (bytes : List ℕ) (res : Result Outcome E)
+    → IfOk res (RepliesOnBytes name query bytes) → bytes ≡ first texts → command ≡ commands.Query name query → IfOk res (Answers command texts)
+by_query command name query texts bytes res said same is =
+    subst (λ (z : Command). IfOk res (Answers z texts)) (sym is) (same_bytes name query (first texts) bytes res same said)

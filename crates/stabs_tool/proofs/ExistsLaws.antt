@@ -1,0 +1,126 @@
+-- Words have an outcome over all contents that are bytes.
+use Rattle.std.proofs.Common.{◌≡◌, ◌⊎◌, inl, inr, ℕ, zero, suc, ◌+◌, Bool, true, false, List, [], ◌∷◌, ◌++◌, length, Option, Some, None, refl}
+use Rattle.std.specs.Prelude.{nat_lt, if◌then◌else◌}
+use Rattle.std.specs.List.{sum_by}
+use Rattle.std.specs.FinMap.{get}
+use Rattle.outside.specs.Causes.{Contents}
+use Rattle.st_base.specs.Number.{IsBytes}
+use Rattle.st_base.specs.declared.fault.Fault.{Fault}
+use Rattle.st_base.specs.declared.sizes.TheConstants.{FILE_LIMIT}
+use Rattle.aout_object.specs.Objects.{ObjectSpells}
+use Rattle.aout_object.specs.Objects.{Contents as Object}
+use Rattle.aout_object.specs.Checks.{FileFault}
+use Rattle.stab_grammar.specs.declared.tree.Key.{Key}
+use Rattle.stab_grammar.specs.declared.tree.Symbol.{Symbol}
+use Rattle.stab_grammar.specs.StringFaults.{IsSpelling, IsStringFault}
+use Rattle.stabs_tool.specs.declared.command.Query.{Query}
+use Rattle.stabs_tool.specs.declared.command.Query.TheVariants.{TagNamed}
+use Rattle.stabs_tool.specs.declared.command.Command.{Command}
+use Rattle.stabs_tool.specs.declared.command.Command.TheVariants as commands
+use Rattle.stabs_tool.specs.declared.command.Asked.{Asked}
+use Rattle.stabs_tool.specs.declared.command.Asked.TheVariants as asks
+use Rattle.stabs_tool.specs.declared.inputs.Cause.TheVariants as cause
+use Rattle.stabs_tool.specs.declared.inputs.Inputs.{Inputs}
+use Rattle.stabs_tool.specs.declared.inputs.Inputs.TheVariants.{All, Fault as Faulty, TooMuch}
+use Rattle.stabs_tool.specs.declared.outcome.Outcome.{Outcome}
+use Rattle.stabs_tool.specs.declared.outcome.TheConstants.{DONE}
+use Rattle.stabs_tool.specs.declared.types.unit.Unit.{Unit as UnitOf}
+use Rattle.stabs_tool.specs.Units.{tag_of}
+use Rattle.stabs_tool.specs.Listings.{IsListing}
+use Rattle.stabs_tool.specs.Listed.{listing_text}
+use Rattle.stabs_tool.specs.Readings.{strings_of, AreUnit, AreRefused}
+use Rattle.stabs_tool.specs.Words.{first}
+use Rattle.stabs_tool.specs.Commands.{asked, inputs_of, most_of}
+use Rattle.stabs_tool.specs.Inputs.{loaded_inputs, inputs_from, after_content, name_at}
+use Rattle.stabs_tool.specs.Outcomes.{printed, usage, absent, read_fault, limit, refused, nothing}
+use Rattle.stabs_tool.specs.Replies.{RepliesOnTag, RepliesInUnit, RepliesOnUnit, RepliesOnObject, RepliesOnBytes, Answers, RepliesTo, Means, IsOutcome, AreBytes}
+use Rattle.stabs_tool.proofs.ReadingLemmas.{a_reading}
+
+-- ---- what is loaded is bytes
+
+-- each text is bytes
+abbrev AllBytes : List (List ℕ) → Type 0
+AllBytes [] = Unit {0}
+AllBytes (text ∷ texts) = IsBytes text × AllBytes texts
+
+all_bytes-push : (texts : List (List ℕ)) (text : List ℕ) → AllBytes texts → IsBytes text → AllBytes (texts ++ text ∷ [])
+all_bytes-push [] text all one = (one, tt)
+all_bytes-push (t ∷ texts) text all one = (all.0, all_bytes-push texts text all.1 one)
+
+first_bytes : (texts : List (List ℕ)) → AllBytes texts → IsBytes (first texts)
+first_bytes [] all = tt
+first_bytes (text ∷ texts) all = all.0
+
+-- all contents that inputs come to are bytes
+abbrev HasBytes : Inputs → Type 0
+HasBytes (All texts) = AllBytes texts
+HasBytes other = Unit {0}
+
+within_bytes : (texts : List (List ℕ)) → AllBytes texts → (long : Bool) → HasBytes (if long then TooMuch else All texts)
+within_bytes texts all true = tt
+within_bytes texts all false = all
+
+long_bytes : (at : ℕ) (inputs : Inputs) → HasBytes inputs → (long : Bool) → HasBytes (if long then Faulty at cause.Long else inputs)
+long_bytes at inputs all true = tt
+long_bytes at inputs all false = all
+
+-- what the content of a name leads to has bytes, where that of all bytes does
+content_bytes : (m : Contents) (are : AreBytes m) (name : List ℕ) (most at : ℕ) (next : List ℕ → Inputs) → ((text : List ℕ) → IsBytes text → HasBytes (next text))
+    → (held : Option (List ℕ)) → get m name ≡ held → HasBytes (after_content most at next held)
+content_bytes m are name most at next all None e = tt
+content_bytes m are name most at next all (Some text) e = long_bytes at (next text) (all text (are name text e)) (nat_lt most (length text))
+
+loaded_bytes : (m : Contents) (are : AreBytes m) (most total : ℕ) (texts : List (List ℕ)) (at : ℕ) (names : List (List ℕ)) → AllBytes texts → HasBytes (inputs_from m most total texts at names)
+loaded_bytes m are most total texts at [] all = within_bytes texts all (nat_lt total (sum_by length texts))
+loaded_bytes m are most total texts at (name ∷ names) all =
+    content_bytes m are name most at (λ text. inputs_from m most total (texts ++ text ∷ []) (at + 1) names)
+    (λ text one. loaded_bytes m are most total (texts ++ text ∷ []) (at + 1) names (all_bytes-push texts text all one)) (get m name) refl
+
+-- ---- an outcome
+
+module _ (some : (text : List ℕ) → ((s : Symbol) × IsSpelling s text) ⊎ ((f : Fault) × IsStringFault text f))
+    (object_or_fault : (bytes : List ℕ) → IsBytes bytes → ((object : Object) × ObjectSpells object bytes) ⊎ ((f : Fault) × FileFault bytes f))
+    (a_listing : (unit : UnitOf) (start : Key) → (keys : List Key) × IsListing unit start keys) where
+  on_tag : (unit : UnitOf) (tag : List ℕ) → (o : Outcome) × RepliesOnTag unit tag o
+  on_tag unit tag = by_tag (tag_of unit tag) refl where
+    by_tag : (found : Option Key) → tag_of unit tag ≡ found → (o : Outcome) × RepliesOnTag unit tag o
+    by_tag None e = (nothing, inl ((e, refl)))
+    by_tag (Some key) e = let l = a_listing unit key in (printed DONE (listing_text unit l.0), inr ((key, l.0, e, l.1, refl)))
+
+  in_unit : (unit : UnitOf) (number : ℕ) (tag : List ℕ) → (o : Outcome) × RepliesInUnit unit number tag o
+  in_unit unit zero tag = on_tag unit tag
+  in_unit unit (suc number) tag = (nothing, refl)
+
+  on_unit : (query : Query) (unit : UnitOf) → (o : Outcome) × RepliesOnUnit query unit o
+  on_unit (TagNamed number tag) unit = in_unit unit number tag
+
+  on_object : (name : List ℕ) (query : Query) (object : Object) → (o : Outcome) × RepliesOnObject name query object o
+  on_object name query object = by_reading (a_reading some (strings_of object)) where
+    by_reading : ((unit : UnitOf) × AreUnit (strings_of object) unit) ⊎ ((f : Fault) × AreRefused (strings_of object) f) → (o : Outcome) × RepliesOnObject name query object o
+    by_reading (inl u) = let r = on_unit query u.0 in (r.0, inl ((u.0, u.1, r.1)))
+    by_reading (inr f) = (refused name f.0, inr ((f.0, f.1, refl)))
+
+  on_bytes : (name : List ℕ) (query : Query) (bytes : List ℕ) → IsBytes bytes → (o : Outcome) × RepliesOnBytes name query bytes o
+  on_bytes name query bytes are = by_object (object_or_fault bytes are) where
+    by_object : ((object : Object) × ObjectSpells object bytes) ⊎ ((f : Fault) × FileFault bytes f) → (o : Outcome) × RepliesOnBytes name query bytes o
+    by_object (inl s) = let r = on_object name query s.0 in (r.0, (are, inl ((s.0, s.1, r.1))))
+    by_object (inr f) = (refused name f.0, (are, inr ((f.0, f.1, refl))))
+
+  an_answer : (command : Command) (texts : List (List ℕ)) → AllBytes texts → (o : Outcome) × Answers command texts o
+  an_answer (commands.Query file query) texts all = on_bytes file query (first texts) (first_bytes texts all)
+
+  a_reply : (command : Command) (inputs : Inputs) → HasBytes inputs → (o : Outcome) × RepliesTo command inputs o
+  a_reply command (All texts) all = an_answer command texts all
+  a_reply command (Faulty at cause.Absent) all = (absent (name_at (inputs_of command) at), refl)
+  a_reply command (Faulty at cause.Long) all = (limit (most_of command), refl)
+  a_reply command (Faulty at cause.Failed) all = (read_fault (name_at (inputs_of command) at), refl)
+  a_reply command TooMuch all = (limit FILE_LIMIT, refl)
+
+  a_meaning : (a : Asked) (m : Contents) → AreBytes m → (o : Outcome) × Means a m o
+  a_meaning (asks.Wrong at) m are = (usage at, refl)
+  a_meaning (asks.Command command) m are =
+      a_reply command (loaded_inputs m (most_of command) FILE_LIMIT (inputs_of command)) (loaded_bytes m are (most_of command) FILE_LIMIT [] 0 (inputs_of command) tt)
+
+  -- words have an outcome
+  pub outcome_exists : (words : List (List ℕ)) (m : Contents) → AreBytes m → (o : Outcome) × IsOutcome words m o
+  outcome_exists words m are = a_meaning (asked words) m are

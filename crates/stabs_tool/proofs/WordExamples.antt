@@ -1,0 +1,111 @@
+-- Worked values of what words ask, by hand.
+use Rattle.std.proofs.Common.{◌≡◌, ◌<◌, ℕ, zero, suc, Bool, true, false, ◌&&◌, List, [], ◌∷◌, Some, None, refl, lit<}
+use Rattle.std.specs.Prelude.{codes, nat_lt, slice_index}
+use Rattle.std.specs.Str.{is_utf8}
+use Rattle.std.proofs.lemmas.Bool.{ltb-true, and_parts}
+use Rattle.std.proofs.lemmas.Str.{IsUtf8-from_ascii, is_utf8-from_IsUtf8}
+use Rattle.stabs_tool.specs.declared.command.Query.TheVariants.{TagNamed}
+use Rattle.stabs_tool.specs.declared.command.Command.TheVariants as commands
+use Rattle.stabs_tool.specs.declared.command.Asked.TheVariants as asks
+use Rattle.readers.specs.Words.{number_at, digits_on}
+use Rattle.stabs_tool.specs.Words.{is_text, is_number, spelled_number}
+use Rattle.stabs_tool.specs.Commands.{asked, inputs_of}
+
+-- ---- numbers
+
+seven : spelled_number (codes "7") ≡ Some 7
+unfolding number_at digits_on
+seven = refl
+
+-- a leading zero spells no number
+leading_zero : spelled_number (codes "07") ≡ None
+unfolding number_at digits_on
+leading_zero = refl
+
+-- 9 is a number up to 9, and 10 is none
+nine : is_number 9 (codes "9") ≡ true
+unfolding number_at digits_on
+nine = refl
+
+ten : is_number 9 (codes "10") ≡ false
+unfolding number_at digits_on
+ten = refl
+
+-- ---- texts of ASCII are UTF-8
+
+all_ascii : List ℕ → Bool
+all_ascii [] = true
+all_ascii (b ∷ bytes) = nat_lt b 128 && all_ascii bytes
+
+below : (bytes : List ℕ) → all_ascii bytes ≡ true → (at : ℕ) → slice_index bytes at < 128
+unfolding all_ascii
+below [] e at = lit< tt
+below (b ∷ bytes) e zero = ltb-true b 128 (and_parts (nat_lt b 128) (all_ascii bytes) e).0
+below (b ∷ bytes) e (suc at) = below bytes (and_parts (nat_lt b 128) (all_ascii bytes) e).1 at
+
+text : (bytes : List ℕ) → all_ascii bytes ≡ true → is_utf8 bytes ≡ true
+text bytes e = is_utf8-from_IsUtf8 bytes (IsUtf8-from_ascii bytes (below bytes e))
+
+-- the words of this page
+query_text : is_utf8 (codes "query") ≡ true
+unfolding all_ascii
+query_text = text (codes "query") refl
+
+file_text : is_utf8 (codes "a.o") ≡ true
+unfolding all_ascii
+file_text = text (codes "a.o") refl
+
+tag_text : is_utf8 (codes "tag") ≡ true
+unfolding all_ascii
+tag_text = text (codes "tag") refl
+
+unit_text : is_utf8 (codes "0") ≡ true
+unfolding all_ascii
+unit_text = text (codes "0") refl
+
+zeros_text : is_utf8 (codes "00") ≡ true
+unfolding all_ascii
+zeros_text = text (codes "00") refl
+
+name_text : is_utf8 (codes "list") ≡ true
+unfolding all_ascii
+name_text = text (codes "list") refl
+
+-- ---- lines
+
+-- `query FILE tag U NAME`
+abbrev line : List ℕ → List (List ℕ)
+line unit = codes "query" ∷ codes "a.o" ∷ codes "tag" ∷ unit ∷ codes "list" ∷ []
+
+-- the tag `list` of unit 0 of the file `a.o`
+a_query : asked (line (codes "0")) ≡ asks.Command (commands.Query (codes "a.o") (TagNamed 0 (codes "list")))
+unfolding number_at digits_on
+a_query = rw (query_text, file_text, tag_text, unit_text, name_text) refl
+
+-- its one input
+an_input : inputs_of (commands.Query (codes "a.o") (TagNamed 0 (codes "list"))) ≡ codes "a.o" ∷ []
+an_input = refl
+
+-- a leading zero is told at its place, and so are a word that is missing and one too many
+a_wrong_number : asked (line (codes "00")) ≡ asks.Wrong 3
+unfolding number_at digits_on
+a_wrong_number = rw (query_text, file_text, tag_text, zeros_text) refl
+
+nothing_asked : asked [] ≡ asks.Wrong 0
+nothing_asked = refl
+
+a_missing_name : asked (codes "query" ∷ codes "a.o" ∷ codes "tag" ∷ codes "0" ∷ []) ≡ asks.Wrong 4
+unfolding number_at digits_on
+a_missing_name = rw (query_text, file_text, tag_text, unit_text) refl
+
+a_word_too_many : asked (codes "query" ∷ codes "a.o" ∷ codes "tag" ∷ codes "0" ∷ codes "list" ∷ codes "list" ∷ []) ≡ asks.Wrong 5
+unfolding number_at digits_on
+a_word_too_many = rw (query_text, file_text, tag_text, unit_text, name_text) refl
+
+-- a word that is not UTF-8 is wrong, even as the name of a file
+no_text : (word : List ℕ) → is_text word ≡ false → asked (codes "query" ∷ word ∷ []) ≡ asks.Wrong 1
+no_text word none = rw (query_text, none) refl
+
+-- what is asked is not the other way round
+not_the_other : asked (line (codes "0")) ≡ asks.Wrong 3 → ⊥
+not_the_other e = let is = a_query in absurd cc

@@ -1,0 +1,8 @@
+use Rattle.std.proofs.Common.{◌∙◌}
+use Rattle.stabs_tool.proofs.Decisions.{decided_of}
+use Rattle.stabs_tool.proofs.decide.perform.Goals as goal
+
+pub returns-clause-answer : goal.returns-clause-answer
+returns-clause-answer g c =
+    decided_of c.args.command.now _ _ _ _ (c.items.ensures ∙ c.in_ok-names.ensures) c.most_of.ensures c.in_ok-inputs.inputs c.reply.result
+    c.in_ok-inputs.ensures.told c.in_ok-inputs.ensures.causes c.reply.ensures

@@ -1,8 +1,0 @@
-use Rattle.std.proofs.Common.{◌≡◌, drop}
-use Rattle.aout_object.specs.Objects.{all_named}
-use Rattle.stabs_tool.specs.Readings.{strings_from}
-use Rattle.stabs_tool.proofs.stabs.strings_of.Given as goal
-
--- no entry so far is a stab
-abbrev pub invariant-loop-place : goal.invariant-loop-place
-invariant-loop-place l = strings_from l.place (all_named l.strings (drop l.place l.entries)) ≡ strings_from 0 (all_named l.strings l.entries)

@@ -1,0 +1,55 @@
+-- What loading the inputs of a command comes to: the first that fails, or the contents of all in order. This is this project's own.
+use Rattle.std.specs.Prelude.{◌≡◌, ◌<◌, ◌+◌, ℕ, nat_lt, if◌then◌else◌, List, [], ◌∷◌, ◌++◌, length, slice_index_or, Option, Some, None}
+use Rattle.std.specs.List.{sum_by}
+use Rattle.std.specs.FinMap.{get}
+use Rattle.outside.specs.Causes.{Contents, Rose}
+use Rattle.stabs_tool.specs.declared.inputs.Cause.TheVariants as cause
+use Rattle.stabs_tool.specs.declared.inputs.Inputs.{Inputs}
+use Rattle.stabs_tool.specs.declared.inputs.Inputs.TheVariants.{All, Fault, TooMuch}
+use Rattle.stabs_tool.specs.Causes.{Lacks}
+
+-- ---- over files that tell their contents and do not fail
+
+-- the contents, where they have at most `total` bytes together
+abbrev pub within_total : ℕ → List (List ℕ) → Inputs
+within_total total texts = if nat_lt total (sum_by length texts) then TooMuch else All texts
+
+-- what the content of the input at a place leads to: its fault, or what follows
+abbrev pub after_content : ℕ → ℕ → (List ℕ → Inputs) → Option (List ℕ) → Inputs
+after_content most at next None = Fault at cause.Absent
+after_content most at next (Some text) = if nat_lt most (length text) then Fault at cause.Long else next text
+
+-- what the names from a place on come to, behind the contents of those before
+abbrev pub inputs_from : Contents → ℕ → ℕ → List (List ℕ) → ℕ → List (List ℕ) → Inputs
+inputs_from m most total texts at [] = within_total total texts
+inputs_from m most total texts at (name ∷ names) =
+    after_content most at (λ text. inputs_from m most total (texts ++ text ∷ []) (at + 1) names) (get m name)
+
+-- what all names come to: the first that is absent or has more than `most` bytes, else all contents, if they are within the total
+abbrev pub loaded_inputs : Contents → ℕ → ℕ → List (List ℕ) → Inputs
+loaded_inputs m most total names = inputs_from m most total [] 0 names
+
+-- ---- causes
+
+-- a load failed
+abbrev pub IsFailed : Inputs → Type 0
+IsFailed (Fault at cause.Failed) = Unit {0}
+IsFailed other = ⊥
+
+-- the name at a place
+abbrev pub name_at : List (List ℕ) → ℕ → List ℕ
+name_at names at = slice_index_or names at []
+
+-- why loading comes to this: the fault is that of a name; one is absent as the files tell, or failed last; a load fails where the
+-- count rose, last at this name; else there is a content for each name
+abbrev pub HasCause : Option Contents → ℕ → ℕ → Option (List ℕ) → List (List ℕ) → Inputs → Type 0
+HasCause held before now last names (Fault at cause.Absent) = (at < length names) × Lacks held before now last (name_at names at)
+HasCause held before now last names (Fault at cause.Long) = at < length names
+HasCause held before now last names (Fault at cause.Failed) = (at < length names) × Rose before now × (last ≡ Some (name_at names at))
+HasCause held before now last names (All texts) = length texts ≡ length names
+HasCause held before now last names TooMuch = Unit {0}
+
+-- the place of a fault is that of a name
+abbrev pub IsPlaced : List (List ℕ) → Inputs → Type 0
+IsPlaced names (Fault at why) = at < length names
+IsPlaced names other = Unit {0}

@@ -1,0 +1,69 @@
+-- What a run comes to: a status, what is printed, and what is stored. Each line ends in a line feed; names stand in their shown
+-- form. Statuses and texts are this project's own.
+use Rattle.std.specs.Prelude.{ℕ, Bool, ◌==◌, List, [], ◌∷◌, ◌++◌, codes, decimal, Option, Some, None}
+use Rattle.std.specs.List.{list_any}
+use Rattle.std.specs.FinMap.{insert}
+use Rattle.st_base.specs.declared.fault.Fault.{Fault}
+use Rattle.st_base.specs.Shown.{shown}
+use Rattle.outside.specs.Causes.{Contents}
+use Rattle.stabs_tool.specs.declared.outcome.Content.{Content}
+use Rattle.stabs_tool.specs.declared.outcome.Outcome.{Outcome}
+use Rattle.stabs_tool.specs.declared.outcome.TheConstants.{DONE, USAGE, REFUSED, LIST_REFUSED, ABSENT, READ_FAULT, WRITE_FAULT, NO_MEMORY, LIMIT}
+
+-- ---- statuses
+
+-- the statuses with which a run may end
+abbrev pub all_statuses : List ℕ
+all_statuses = DONE ∷ USAGE ∷ REFUSED ∷ LIST_REFUSED ∷ ABSENT ∷ READ_FAULT ∷ WRITE_FAULT ∷ NO_MEMORY ∷ LIMIT ∷ []
+
+-- the number is one of them
+abbrev pub is_status : ℕ → Bool
+is_status number = list_any (λ status. status == number) all_statuses
+
+-- ---- outcomes that print alone
+
+abbrev pub printed : ℕ → List ℕ → Outcome
+printed status text = record { status = status; text = text; stored = None }
+
+-- one line and its status
+abbrev pub line : ℕ → List ℕ → Outcome
+line status text = printed status (text ++ 10 ∷ [])
+
+-- `usage: word W`, the place of the word
+unfoldable pub usage : ℕ → Outcome
+usage word = line USAGE (codes "usage: word " ++ decimal word)
+
+-- `absent NAME`
+unfoldable pub absent : List ℕ → Outcome
+absent name = line ABSENT (codes "absent " ++ shown name)
+
+-- `read fault NAME`
+unfoldable pub read_fault : List ℕ → Outcome
+read_fault name = line READ_FAULT (codes "read fault " ++ shown name)
+
+-- `limit M`, the limit that is passed
+unfoldable pub limit : ℕ → Outcome
+limit most = line LIMIT (codes "limit " ++ decimal most)
+
+-- `N P W`: the number of a fault, its place and its within
+abbrev pub fault_text : Fault → List ℕ
+fault_text f = decimal f.number ++ 32 ∷ decimal f.place ++ 32 ∷ decimal f.within
+
+-- `refused NAME N P W`
+unfoldable pub refused : List ℕ → Fault → Outcome
+refused name f = line REFUSED (codes "refused " ++ shown name ++ 32 ∷ fault_text f)
+
+-- `none`: a reply without lines
+unfoldable pub nothing : Outcome
+nothing = line DONE (codes "none")
+
+-- the line that is printed where storing failed
+abbrev pub write_fault_text : List ℕ
+write_fault_text = codes "write fault\n"
+
+-- ---- what is stored
+
+-- the contents after something was stored, or nothing
+abbrev pub contents_after : Contents → Option Content → Contents
+contents_after m None = m
+contents_after m (Some content) = insert m content.name content.bytes

@@ -1,0 +1,77 @@
+//! The inputs of a command, loaded in order.
+
+ghost use Rattle.std.specs.Prelude.{◌≡◌, ◌≤◌, ◌⊎◌, ℕ, nat_lt, length, IfOk};
+ghost use Rattle.std.specs.List.{sum_by};
+ghost use Rattle.outside.specs.Causes.{Contents};
+ghost use Rattle.stabs_tool.specs.Inputs.{loaded_inputs, HasCause, IsFailed};
+
+use outside::{Files, Loaded};
+use st_base::{List, Memory, Text};
+use std::alloc::Global;
+
+/// Why an input was not loaded.
+#[derive(Clone, Copy, Debug, Drop, PartialEq, Eq)]
+pub enum Cause {
+    Absent,
+    Long,
+    Failed,
+}
+
+/// What loading all inputs came to.
+#[derive(Debug, Drop)]
+pub enum Inputs {
+    /// The contents, in order.
+    All(List<Text>),
+    /// The first input that was not loaded, by its place, and why.
+    Fault(usize, Cause),
+    /// The contents together have too many bytes.
+    TooMuch,
+}
+
+/// Whether the texts have more than `total` bytes.
+fn passes(texts: &[Text], total: u64) -> bool
+    ensures { result ≡ nat_lt total (sum_by length texts.now) }
+{
+    let mut left = total;
+    for text in texts {
+        let count = text.bytes().len() as u64;
+        if left < count {
+            return true;
+        }
+        left -= count;
+    }
+    false
+}
+
+/// Loads all names in order, to the first that fails: each for at most `most` bytes, and `total` bytes together.
+pub fn load_all<F: Files>(
+    alloc: Global,
+    names: &[Text],
+    most: u64,
+    total: u64,
+    files: &mut F,
+) -> Result<Inputs, Memory>
+    ensures told { (m : Contents) → F.held files.old ≡ Some m
+        → IfOk result (λ inputs. IsFailed inputs ⊎ (inputs ≡ loaded_inputs m most total names.now)) }
+    ensures causes { IfOk result (HasCause (F.held files.old) (F.load_faults files.old) (F.load_faults files.new)
+        (F.last_failed files.new) names.now) }
+    ensures held { F.held files.new ≡ F.held files.old }
+    ensures stores { F.store_faults files.new ≡ F.store_faults files.old }
+    ensures later { F.load_faults files.old ≤ F.load_faults files.new }
+{
+    let mut texts = List::new(alloc);
+    for (at, name) in names.iter().enumerate() {
+        match files.load(alloc, name.copy(alloc)?, most) {
+            Loaded::Bytes(text) => texts.push(text)?,
+            Loaded::Absent => return Ok(Inputs::Fault(at, Cause::Absent)),
+            Loaded::Long => return Ok(Inputs::Fault(at, Cause::Long)),
+            Loaded::Failed => return Ok(Inputs::Fault(at, Cause::Failed)),
+            Loaded::Memory => return Err(Memory),
+        }
+    }
+    if passes(texts.items(), total) {
+        Ok(Inputs::TooMuch)
+    } else {
+        Ok(Inputs::All(texts))
+    }
+}

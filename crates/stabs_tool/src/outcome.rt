@@ -1,0 +1,135 @@
+//! What a run comes to: a status, what is printed, and what is stored. A refusal is turned into its status and its line here
+//! alone.
+
+ghost use Rattle.std.specs.Prelude.{◌≡◌, ◌++◌, decimal, IfOk, OnOk};
+ghost use Rattle.stabs_tool.specs.Outcomes as spec;
+
+use crate::numbers::put_number;
+use st_base::{Fault, Memory, Text, show};
+use std::alloc::Global;
+
+/// The defined output was printed, and stored where the command stores.
+pub const DONE: u8 = 0;
+/// The words are no command.
+pub const USAGE: u8 = 2;
+/// An input has a fault.
+pub const REFUSED: u8 = 3;
+/// The inputs together have a fault.
+pub const LIST_REFUSED: u8 = 4;
+/// A file is not there.
+pub const ABSENT: u8 = 5;
+/// Reading a file failed.
+pub const READ_FAULT: u8 = 6;
+/// Storing a file or printing failed.
+pub const WRITE_FAULT: u8 = 7;
+/// Out of memory.
+pub const NO_MEMORY: u8 = 8;
+/// A size passes its limit.
+pub const LIMIT: u8 = 9;
+
+/// A name and the bytes that it is to hold.
+#[derive(Debug, Drop)]
+pub struct Content {
+    pub name: Text,
+    pub bytes: Text,
+}
+
+/// What a run comes to.
+#[derive(Debug, Drop)]
+pub struct Outcome {
+    /// One of the statuses of this file.
+    pub status: u8,
+    /// What is printed, after something was stored.
+    pub text: Text,
+    /// What is stored, if something is.
+    pub stored: Option<Content>,
+}
+
+/// The line alone, with a line feed behind it.
+fn line(status: u8, mut text: Text) -> Result<Outcome, Memory>
+    ensures { IfOk result (λ o. o ≡ spec.line status text) }
+{
+    text.push(b'\n')?;
+    Ok(printed(status, text))
+}
+
+/// What is printed alone. Takes no memory.
+pub fn printed(status: u8, text: Text) -> Outcome
+    ensures { result ≡ spec.printed status text }
+{
+    Outcome {
+        status,
+        text,
+        stored: None,
+    }
+}
+
+/// `usage: word W`.
+#[tactic(auto, unfolding(crate::specs::Outcomes::usage))]
+pub fn usage(alloc: Global, word: usize) -> Result<Outcome, Memory>
+    ensures { IfOk result (λ o. o ≡ spec.usage word) }
+{
+    let mut text = Text::of(alloc, b"usage: word ")?;
+    put_number(word as u64, &mut text)?;
+    line(USAGE, text)
+}
+
+/// `absent NAME`.
+#[tactic(auto, unfolding(crate::specs::Outcomes::absent))]
+pub fn absent(alloc: Global, name: &[u8]) -> Result<Outcome, Memory>
+    ensures { IfOk result (λ o. o ≡ spec.absent name.now) }
+{
+    let mut text = Text::of(alloc, b"absent ")?;
+    show(&mut text, name)?;
+    line(ABSENT, text)
+}
+
+/// `read fault NAME`.
+#[tactic(auto, unfolding(crate::specs::Outcomes::read_fault))]
+pub fn read_fault(alloc: Global, name: &[u8]) -> Result<Outcome, Memory>
+    ensures { IfOk result (λ o. o ≡ spec.read_fault name.now) }
+{
+    let mut text = Text::of(alloc, b"read fault ")?;
+    show(&mut text, name)?;
+    line(READ_FAULT, text)
+}
+
+/// `limit M`, the limit that is passed.
+#[tactic(auto, unfolding(crate::specs::Outcomes::limit))]
+pub fn limit(alloc: Global, most: u64) -> Result<Outcome, Memory>
+    ensures { IfOk result (λ o. o ≡ spec.limit most) }
+{
+    let mut text = Text::of(alloc, b"limit ")?;
+    put_number(most, &mut text)?;
+    line(LIMIT, text)
+}
+
+fn put_fault(fault: Fault, out: &mut Text) -> Result<(), Memory>
+    ensures { OnOk result (out.new ≡ out.old ++ spec.fault_text fault) }
+{
+    put_number(u64::from(fault.number), out)?;
+    out.push(b' ')?;
+    put_number(fault.place, out)?;
+    out.push(b' ')?;
+    put_number(fault.within, out)
+}
+
+/// `refused NAME N P W`.
+#[tactic(auto, unfolding(crate::specs::Outcomes::refused))]
+pub fn refused(alloc: Global, name: &[u8], fault: Fault) -> Result<Outcome, Memory>
+    ensures { IfOk result (λ o. o ≡ spec.refused name.now fault) }
+{
+    let mut text = Text::of(alloc, b"refused ")?;
+    show(&mut text, name)?;
+    text.push(b' ')?;
+    put_fault(fault, &mut text)?;
+    line(REFUSED, text)
+}
+
+/// `none`.
+#[tactic(auto, unfolding(crate::specs::Outcomes::nothing))]
+pub fn nothing(alloc: Global) -> Result<Outcome, Memory>
+    ensures { IfOk result (λ o. o ≡ spec.nothing) }
+{
+    line(DONE, Text::of(alloc, b"none")?)
+}
