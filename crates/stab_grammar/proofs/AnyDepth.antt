@@ -2,7 +2,7 @@
 use Rattle.std.proofs.Common.{◌≡◌, ℕ, ◌+◌, ◌≤◌, inl, inr, true, false, eqb, cond, List, [], ◌∷◌, ◌++◌, Ok, refl, sym, ap, subst, ◌∙◌, arith}
 use Rattle.std.proofs.lemmas.Bool.{and_parts, eqb-true, both_ways}
 use Rattle.readers.specs.Spelling.{Within, none}
-use Rattle.readers.specs.Words.{name_at}
+use Rattle.readers.specs.Words.{name_at, is_name}
 use Rattle.readers.proofs.Cases.{which, ok_parts}
 use Rattle.readers.proofs.Cuts.{any_after, within_cut, within_none}
 use Rattle.readers.proofs.Starts.{Starts}
@@ -12,7 +12,7 @@ use Rattle.stab_grammar.specs.declared.tree.Descriptor.TheVariants as descriptor
 use Rattle.stab_grammar.specs.declared.tree.Symbol.{Symbol}
 use Rattle.stab_grammar.specs.Spelling.{print_of, letters, print_symbol}
 use Rattle.stab_grammar.specs.Depth.{depths_of}
-use Rattle.stab_grammar.specs.Shape.{refused, name_ok, begins_stack, descriptor_ok, ok, Shaped, ShapedSymbol}
+use Rattle.stab_grammar.specs.Shape.{refused, begins_stack, descriptor_ok, ok, Shaped, ShapedSymbol}
 use Rattle.stab_grammar.specs.Grammar.{begins_type, type_at}
 use Rattle.stab_grammar.proofs.Parts.{NameOk, symbol_name_part}
 use Rattle.stab_grammar.proofs.Forms.{type_starts}
@@ -117,8 +117,8 @@ same_parts s t e f g =
 -- two symbols that are spelled alike are one
 pub one_symbol : (s t : Symbol) → ShapedSymbol s → ShapedSymbol t → print_symbol s ≡ print_symbol t → s ≡ t
 one_symbol s t f g e =
-    let a = and_parts (name_ok refused s.name) _ f in
-    let b = and_parts (name_ok refused t.name) _ g in
+    let a = and_parts (is_name refused 58 s.name) _ f in
+    let b = and_parts (is_name refused 58 t.name) _ g in
     let c = and_parts (descriptor_ok s.descriptor s.tree) (ok s.tree) a.1 in
     let d = and_parts (descriptor_ok t.descriptor t.tree) (ok t.tree) b.1 in
     let names = ok_parts _ _ s.name t.name _ _ (name_again s.name (letters s.descriptor ++ print_of s.tree) a.0) (name_again t.name (letters t.descriptor ++ print_of t.tree) b.0) (ap (name_at refused 58) e) in

@@ -14,11 +14,7 @@ use Rattle.stab_grammar.specs.declared.tree.Choice.{Choice}
 use Rattle.stab_grammar.specs.declared.tree.Tag.{Tag}
 use Rattle.stab_grammar.specs.declared.tree.Key.{Key}
 use Rattle.stab_grammar.specs.Keys.{key_of}
-use Rattle.stab_grammar.specs.Definitions.{Definition, Walked, WalkedField, whole_step, definitions_step, walk_step, walk_field, walked, field_itself, field_definitions, definitions_in, is_cross, cross_step, outer_key, outer_step, no_field}
-
--- a field with the definitions in it
-abbrev pub walked_field : Field → WalkedField
-walked_field = fold-Field Walked WalkedField walk_step walk_field
+use Rattle.stab_grammar.specs.Definitions.{Definition, Walked, WalkedField, whole_step, definitions_step, walk_step, walk_field, walked, walked_field, field_itself, field_definitions, definitions_in, definitions_in_field, is_cross, cross_step, outer_key, outer_step, no_field}
 
 -- ---- a type that is walked comes out whole
 
@@ -96,10 +92,6 @@ whole_field = ind-Field IsWhole IsWholeField whole_tree_step whole_field_step
 
 at_level : (x : TypeTree-F TypeTree Field) → definitions_in (roll-TypeTree x) ≡ definitions_step (walked_level x)
 at_level x = ap (λ (w : Walked). w.1) (fold-roll-TypeTree Walked WalkedField walk_step walk_field x)
-
--- the definitions in a field
-abbrev pub definitions_in_field : Field → List Definition
-definitions_in_field f = (walked_field f).1
 
 each_field : (fields : List Field) → flat_map field_definitions (map walked_field fields) ≡ flat_map definitions_in_field fields
 each_field [] = refl

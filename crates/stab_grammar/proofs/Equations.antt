@@ -1,7 +1,9 @@
 -- The spelling, the depths and the shape of a type, by its forms.
 use Rattle.std.proofs.Common.{◌≡◌, ℕ, List, [], ◌∷◌, ◌++◌, map, Bool, refl, sym, ap, subst, ◌∙◌, rules}
 use Rattle.std.specs.Prelude.{decimal, ◌&&◌, nat_le}
+use Rattle.readers.specs.Words.{is_name}
 use Rattle.readers.specs.Spelling.{ended, all_of, none, inner, tail}
+use Rattle.stab_grammar.specs.declared.limits.TheConstants.{GREATEST_NUMBER}
 use Rattle.stab_grammar.specs.declared.tree.Num.{Num}
 use Rattle.stab_grammar.specs.declared.tree.Numeral.{Numeral}
 use Rattle.stab_grammar.specs.declared.tree.Tag.{Tag}
@@ -15,7 +17,7 @@ use Rattle.stab_grammar.specs.declared.tree.TypeTree.TheViews.{out-TypeTree, rol
 use Rattle.stab_grammar.specs.declared.tree.TypeTree.TheFolds.{fold-roll-TypeTree, fold-roll-Field}
 use Rattle.stab_grammar.specs.Spelling.{num, numeral, tag_letter, choice, same, step, field_step, print_of, print_field}
 use Rattle.stab_grammar.specs.Depth.{depth_step, field_inside, depths_of, depths_field}
-use Rattle.stab_grammar.specs.Shape.{greatest_number, refused, refused_item, name_ok, num_ok, numeral_ok, choice_ok, begins_digit, left, first_fine, ok_step, field_ok, ok, ok_field}
+use Rattle.stab_grammar.specs.Shape.{refused, refused_item, num_ok, numeral_ok, choice_ok, begins_digit, left, first_fine, ok_step, field_ok, ok, ok_field}
 use Rattle.stab_grammar.specs.Grammar.{a_field}
 
 -- every type is a level that is rolled up
@@ -159,28 +161,28 @@ ok-Range t low high = ap ok (sym (rolls-Range t low high)) ∙ fold-roll-TypeTre
 pub ok-Array : (i : TypeTree) (low high : Numeral) (t : TypeTree) → ok (Array i low high t) ≡ (ok i && (numeral_ok low && (numeral_ok high && ok t)))
 ok-Array i low high t = ap ok (sym (rolls-Array i low high t)) ∙ fold-roll-TypeTree Bool (Bool × Bool) ok_step field_ok (TypeTree-F.Array i low high t)
 
-pub ok-Struct : (size : ℕ) (fields : List Field) → ok (Struct size fields) ≡ (nat_le size greatest_number && (all_of left (map ok_field fields) && first_fine (map ok_field fields)))
+pub ok-Struct : (size : ℕ) (fields : List Field) → ok (Struct size fields) ≡ (nat_le size GREATEST_NUMBER && (all_of left (map ok_field fields) && first_fine (map ok_field fields)))
 ok-Struct size fields = ap ok (sym (rolls-Struct size fields)) ∙ fold-roll-TypeTree Bool (Bool × Bool) ok_step field_ok (TypeTree-F.Struct size fields)
 
-pub ok-Union : (size : ℕ) (fields : List Field) → ok (Union size fields) ≡ (nat_le size greatest_number && (all_of left (map ok_field fields) && first_fine (map ok_field fields)))
+pub ok-Union : (size : ℕ) (fields : List Field) → ok (Union size fields) ≡ (nat_le size GREATEST_NUMBER && (all_of left (map ok_field fields) && first_fine (map ok_field fields)))
 ok-Union size fields = ap ok (sym (rolls-Union size fields)) ∙ fold-roll-TypeTree Bool (Bool × Bool) ok_step field_ok (TypeTree-F.Union size fields)
 
 pub ok-Enum : (choices : List Choice) → ok (Enum choices) ≡ all_of choice_ok choices
 ok-Enum choices = ap ok (sym (rolls-Enum choices)) ∙ fold-roll-TypeTree Bool (Bool × Bool) ok_step field_ok (TypeTree-F.Enum choices)
 
-pub ok-Cross : (tag : Tag) (name : List ℕ) → ok (Cross tag name) ≡ name_ok refused name
+pub ok-Cross : (tag : Tag) (name : List ℕ) → ok (Cross tag name) ≡ is_name refused 58 name
 ok-Cross tag name = ap ok (sym (rolls-Cross tag name)) ∙ fold-roll-TypeTree Bool (Bool × Bool) ok_step field_ok (TypeTree-F.Cross tag name)
 
-pub ok-Sized : (bits : ℕ) (t : TypeTree) → ok (Sized bits t) ≡ (nat_le bits greatest_number && ok t)
+pub ok-Sized : (bits : ℕ) (t : TypeTree) → ok (Sized bits t) ≡ (nat_le bits GREATEST_NUMBER && ok t)
 ok-Sized bits t = ap ok (sym (rolls-Sized bits t)) ∙ fold-roll-TypeTree Bool (Bool × Bool) ok_step field_ok (TypeTree-F.Sized bits t)
 
-pub ok-Builtin : (n : ℕ) → ok (Builtin n) ≡ nat_le n greatest_number
+pub ok-Builtin : (n : ℕ) → ok (Builtin n) ≡ nat_le n GREATEST_NUMBER
 ok-Builtin n = ap ok (sym (rolls-Builtin n)) ∙ fold-roll-TypeTree Bool (Bool × Bool) ok_step field_ok (TypeTree-F.Builtin n)
 
-pub ok-Real : (a b c : ℕ) → ok (Real a b c) ≡ (nat_le a greatest_number && (nat_le b greatest_number && nat_le c greatest_number))
+pub ok-Real : (a b c : ℕ) → ok (Real a b c) ≡ (nat_le a GREATEST_NUMBER && (nat_le b GREATEST_NUMBER && nat_le c GREATEST_NUMBER))
 ok-Real a b c = ap ok (sym (rolls-Real a b c)) ∙ fold-roll-TypeTree Bool (Bool × Bool) ok_step field_ok (TypeTree-F.Real a b c)
 
-pub ok-field : (p : List ℕ × (TypeTree × (ℕ × ℕ))) → ok_field (a_field p) ≡ (name_ok refused_item p.0 && (ok p.1.0 && (nat_le p.1.1.0 greatest_number && nat_le p.1.1.1 greatest_number)), begins_digit p.0)
+pub ok-field : (p : List ℕ × (TypeTree × (ℕ × ℕ))) → ok_field (a_field p) ≡ (is_name refused_item 58 p.0 && (ok p.1.0 && (nat_le p.1.1.0 GREATEST_NUMBER && nat_le p.1.1.1 GREATEST_NUMBER)), begins_digit p.0)
 ok-field p = fold-roll-Field Bool (Bool × Bool) ok_step field_ok (record { name = p.0; tree = p.1.0; bit = p.1.1.0; bits = p.1.1.1 })
 
 -- the parts of a field

@@ -1,11 +1,18 @@
 -- Worked values: a structure with a field that points to the structure itself, `(0,2)=s8val:(0,1),0,32;next:(0,3)=*(0,2),32,32;;`,
--- and the same structure where the name of the first field begins with a digit. The texts are written by hand.
-use Rattle.std.proofs.Common.{◌≡◌, ℕ, ◌++◌, true, false, List, [], ◌∷◌, decimal, codes, refl, ap, ◌∙◌, sym, map, lit<, lit≤, All, Contains, rules}
+-- and the same structure where the name of the first field begins with a digit; a typedef, a variable, and two strings with and
+-- without a fault. The texts are written by hand.
+use Rattle.std.proofs.Common.{◌≡◌, ℕ, ◌++◌, true, false, List, [], ◌∷◌, decimal, codes, refl, ap, ◌∙◌, sym, map, subst, arith, lit<, lit≤, All, Contains, rules}
 use Rattle.std.specs.List.{IsDistinct}
 use Rattle.std.proofs.lemmas.List.Elements.{All-nil, All-cons}
 use Rattle.std.proofs.lemmas.Fmt.{decimal_digit, decimal_step}
+use Rattle.st_base.specs.declared.fault.Fault.{Fault}
+use Rattle.st_base.specs.declared.fault.TheConstants.{END}
+use Rattle.st_base.specs.Faults.{fault_at}
+use Rattle.readers.specs.declared.fault.TextFault.TheVariants.{End}
+use Rattle.readers.specs.Spelling.{Within}
+use Rattle.stab_grammar.specs.declared.limits.TheConstants.{GREATEST_DEPTH}
 use Rattle.stab_grammar.specs.declared.tree.Num.{Num}
-use Rattle.stab_grammar.specs.declared.tree.Num.TheVariants.{Pair}
+use Rattle.stab_grammar.specs.declared.tree.Num.TheVariants.{Plain, Pair}
 use Rattle.stab_grammar.specs.declared.tree.Key.{Key}
 use Rattle.stab_grammar.specs.declared.tree.Field.{Field}
 use Rattle.stab_grammar.specs.declared.tree.Descriptor.TheVariants as descriptors
@@ -17,6 +24,11 @@ use Rattle.stab_grammar.specs.declared.tree.TypeTree.TheFolds.{fold-TypeTree, fo
 use Rattle.stab_grammar.specs.Spelling.{print_of, print_symbol}
 use Rattle.stab_grammar.specs.Shape.{ok}
 use Rattle.stab_grammar.specs.Surface.{same_key, surface_of, placed}
+use Rattle.stab_grammar.specs.Depth.{depths_of, depths_symbol}
+use Rattle.stab_grammar.specs.Files.{files_of, shape_of}
+use Rattle.stab_grammar.specs.Walks.{all_numbers, surface_numbers}
+use Rattle.stab_grammar.specs.StringFaults.{IsSpelling, IsStringFault}
+use Rattle.stab_grammar.proofs.Whole.{not_both}
 
 -- ---- what a fold makes of one level
 
@@ -131,3 +143,67 @@ present-structure keys surface is_listed is_surface =
 pub present-pointer : (keys surface : List Key) → keys ≡ listed → surface ≡ key 3 ∷ [] → All (Contains keys) surface
 present-pointer keys surface is_listed is_surface =
     rw (is_listed, is_surface) (All-cons (Contains listed) (key 3) [] (2, lit< tt, refl) (All-nil (Contains listed)))
+
+-- ---- where types begin, and how deep
+
+-- `(0,3)=*(0,2)`: the definition, the pointer behind `=`, and the number behind `*`
+depths_of-pointer : depths_of (Def (Pair 0 3) (Pointer (Ref (Pair 0 2)))) ≡ 1 ∷ (0 ∷ (0 ∷ (0 ∷ (0 ∷ (0 ∷ (2 ∷ (3 ∷ (0 ∷ (0 ∷ (0 ∷ (0 ∷ [])))))))))))
+depths_of-pointer = simp (levels, decimals)
+
+-- ---- files and shapes
+
+-- `int:t(0,1)=(2,8)`, an `int` that a header has given the number 8
+abbrev int : Symbol
+int = record { name = codes "int"; descriptor = descriptors.Typedef; tree = Def (Pair 0 1) (Ref (Pair 2 8)) }
+
+files_of-int : files_of int ≡ 0 ∷ (2 ∷ [])
+files_of-int = simp levels
+
+shape_of-int : shape_of int ≡ codes "int:t(,1)=(,8)"
+shape_of-int = simp (levels, decimals)
+
+-- where that header is the third file in place of the second
+shape_of-other_file : shape_of (record { name = codes "int"; descriptor = descriptors.Typedef; tree = Def (Pair 0 1) (Ref (Pair 3 8)) }) ≡ codes "int:t(,1)=(,8)"
+shape_of-other_file = simp (levels, decimals)
+
+-- ---- numbers
+
+-- all numbers of a type, and those on its surface
+all_numbers-int : all_numbers int.tree ≡ Pair 0 1 ∷ (Pair 2 8 ∷ [])
+all_numbers-int = simp levels
+
+surface_numbers-int : surface_numbers int.tree ≡ Pair 0 1 ∷ []
+surface_numbers-int = simp levels
+
+-- ---- spellings and faults
+
+-- `i:1`, a variable on the stack
+abbrev stacked : Symbol
+stacked = record { name = codes "i"; descriptor = descriptors.Stack; tree = Ref (Plain 1) }
+
+depths_symbol-stacked : depths_symbol stacked ≡ 0 ∷ (0 ∷ (1 ∷ []))
+depths_symbol-stacked = simp (levels, decimals)
+
+spelled-stacked : IsSpelling stacked (codes "i:1")
+spelled-stacked = record {
+  shaped = simp (levels, decimals);
+  depth = subst (Within GREATEST_DEPTH) (sym depths_symbol-stacked) (lit≤ tt, (lit≤ tt, (lit≤ tt, tt)));
+  spelled = simp (levels, decimals);
+}
+
+-- a string that is spelled so has no fault
+no_fault-stacked : (fault : Fault) → IsStringFault (codes "i:1") fault → ⊥
+no_fault-stacked fault is = not_both (codes "i:1") stacked fault spelled-stacked is
+
+-- each spelling has a colon
+has_colon : (name rest : List ℕ) → (name ++ 58 ∷ []) ++ rest ≡ [] → ⊥
+has_colon [] rest e = cc
+has_colon (b ∷ name) rest e = cc
+
+-- the empty string ends before what it spells
+fault-empty : IsStringFault [] (fault_at END 0)
+fault-empty = record {
+  first = End 0;
+  is_first = ((refl, record { whole = stacked; is_shaped = spelled-stacked.shaped; more = codes "i:1"; spelled = sym spelled-stacked.spelled }, λ s shaped e. has_colon s.name _ e), λ other has. omega arith);
+  told = refl;
+}

@@ -4,7 +4,7 @@ use Rattle.std.specs.Prelude.{decimal, nat_le, ◌&&◌}
 use Rattle.std.proofs.lemmas.Bool.{and_parts, and_from, not-true, not_from_false}
 use Rattle.readers.specs.Spelling.{Form, none, ended, all_of}
 use Rattle.readers.specs.Readers.{Reader, seq, closed, unless, many}
-use Rattle.readers.specs.Words.{is_digit, name_at}
+use Rattle.readers.specs.Words.{is_digit, name_at, is_name}
 use Rattle.readers.proofs.Cuts.{After, any, any_after}
 use Rattle.readers.proofs.Laws.{Laws}
 use Rattle.readers.proofs.Seq.{seq_laws}
@@ -16,13 +16,14 @@ use Rattle.readers.proofs.Closed.{closed_laws}
 use Rattle.readers.proofs.Unless.{NotFirst, unless_form, unless_laws}
 use Rattle.readers.proofs.Many.{Each, many_form, many_laws}
 use Rattle.readers.proofs.Numbers.{no_digit}
+use Rattle.stab_grammar.specs.declared.limits.TheConstants.{GREATEST_NUMBER}
 use Rattle.stab_grammar.specs.declared.tree.Num.TheVariants.{Plain}
 use Rattle.stab_grammar.specs.declared.tree.Field.{Field}
 use Rattle.stab_grammar.specs.declared.tree.TypeTree.{TypeTree}
 use Rattle.stab_grammar.specs.declared.tree.TypeTree.TheVariants.{Ref}
 use Rattle.stab_grammar.specs.Spelling.{print_of, print_field}
 use Rattle.stab_grammar.specs.Depth.{depths_of, depths_field}
-use Rattle.stab_grammar.specs.Shape.{greatest_number, refused_item, name_ok, begins_digit, left, first_fine, ok, ok_field, Shaped}
+use Rattle.stab_grammar.specs.Shape.{refused_item, begins_digit, left, first_fine, ok, ok_field, Shaped}
 use Rattle.stab_grammar.specs.Grammar.{plain_number, a_field, field_at, body_at}
 use Rattle.stab_grammar.proofs.Parts.{NumberOk, plain_part, number_and_part, ItemNameOk, item_name_part, item_apart}
 use Rattle.stab_grammar.proofs.Equations.{print-field, depths-field, ok-Ref, ok-field, parts_of}
@@ -50,7 +51,7 @@ abbrev FieldParts : List ℕ × (TypeTree × (ℕ × ℕ)) → Type 0
 FieldParts p = ItemNameOk p.0 × (Shaped p.1.0 × (NumberOk p.1.1.0 × NumberOk p.1.1.1))
 
 -- a field has a spelling where its parts have
-ok_first : (p : List ℕ × (TypeTree × (ℕ × ℕ))) → (ok_field (a_field p)).0 ≡ (name_ok refused_item p.0 && (ok p.1.0 && (nat_le p.1.1.0 greatest_number && nat_le p.1.1.1 greatest_number)))
+ok_first : (p : List ℕ × (TypeTree × (ℕ × ℕ))) → (ok_field (a_field p)).0 ≡ (is_name refused_item 58 p.0 && (ok p.1.0 && (nat_le p.1.1.0 GREATEST_NUMBER && nat_le p.1.1.1 GREATEST_NUMBER)))
 ok_first p = ap (λ (z : Bool × Bool). z.0) (ok-field p)
 
 -- the name tells whether it begins with a digit
@@ -60,15 +61,15 @@ ok_second p = ap (λ (z : Bool × Bool). z.1) (ok-field p)
 -- the parts of a field make it one
 field_to : (f : Field) → Of a_field FieldParts f → FieldOk f
 field_to f h =
-    let w : FieldOk (a_field h.0) = ok_first h.0 ∙ and_from (name_ok refused_item h.0.0) _ h.1.0 (and_from (ok h.0.1.0) _ h.1.1.0 (and_from (nat_le h.0.1.1.0 greatest_number) (nat_le h.0.1.1.1 greatest_number) h.1.1.1.0 h.1.1.1.1)) in
+    let w : FieldOk (a_field h.0) = ok_first h.0 ∙ and_from (is_name refused_item 58 h.0.0) _ h.1.0 (and_from (ok h.0.1.0) _ h.1.1.0 (and_from (nat_le h.0.1.1.0 GREATEST_NUMBER) (nat_le h.0.1.1.1 GREATEST_NUMBER) h.1.1.1.0 h.1.1.1.1)) in
     subst FieldOk h.2 w
 
 -- a field has such parts
 field_parts : (f : Field) → FieldOk f → FieldParts (parts_of f)
 field_parts f e =
-    let a = and_parts (name_ok refused_item f.name) (ok f.tree && (nat_le f.bit greatest_number && nat_le f.bits greatest_number)) (sym (ok_first (parts_of f)) ∙ e) in
-    let b = and_parts (ok f.tree) (nat_le f.bit greatest_number && nat_le f.bits greatest_number) a.1 in
-    (a.0, (b.0, and_parts (nat_le f.bit greatest_number) (nat_le f.bits greatest_number) b.1))
+    let a = and_parts (is_name refused_item 58 f.name) (ok f.tree && (nat_le f.bit GREATEST_NUMBER && nat_le f.bits GREATEST_NUMBER)) (sym (ok_first (parts_of f)) ∙ e) in
+    let b = and_parts (ok f.tree) (nat_le f.bit GREATEST_NUMBER && nat_le f.bits GREATEST_NUMBER) a.1 in
+    (a.0, (b.0, and_parts (nat_le f.bit GREATEST_NUMBER) (nat_le f.bits GREATEST_NUMBER) b.1))
 
 -- each field is made of its parts
 field_from : (f : Field) → FieldOk f → Of a_field FieldParts f

@@ -10,6 +10,7 @@ use Rattle.readers.proofs.Made.{Of}
 use Rattle.readers.proofs.Optional.{opt_shaped, opt_print}
 use Rattle.readers.proofs.Starts.{Starts, starts_more}
 use Rattle.readers.proofs.Alternatives.{Alternatives, or_byte, or_alternative}
+use Rattle.stab_grammar.specs.declared.limits.TheConstants.{GREATEST_NUMBER}
 use Rattle.stab_grammar.specs.declared.tree.Num.{Num}
 use Rattle.stab_grammar.specs.declared.tree.Numeral.{Numeral}
 use Rattle.stab_grammar.specs.declared.tree.Field.{Field}
@@ -19,7 +20,7 @@ use Rattle.stab_grammar.specs.declared.tree.TypeTree.TheVariants.{rolls-Ref, rol
 use Rattle.stab_grammar.specs.declared.tree.TypeTree.TheOpen.{TypeTree-F}
 use Rattle.stab_grammar.specs.declared.tree.TypeTree.TheViews.{roll-TypeTree}
 use Rattle.stab_grammar.specs.Spelling.{num, print_of}
-use Rattle.stab_grammar.specs.Shape.{greatest_number, num_ok, numeral_ok, left, first_fine, ok, ok_field, Shaped}
+use Rattle.stab_grammar.specs.Shape.{num_ok, numeral_ok, left, first_fine, ok, ok_field, Shaped}
 use Rattle.stab_grammar.specs.Grammar.{a_range, an_array, a_struct, a_union, a_cross, a_sized, a_real, numbered, a_numbered, begins_type}
 use Rattle.stab_grammar.proofs.Parts.{NumberOk, NumOk, starts_num, NumeralOk, ChoicesOk, CrossParts, RealParts}
 use Rattle.stab_grammar.proofs.Equations.{by_layer, print-Ref, print-Def, print-Pointer, print-Function, print-Const, print-Volatile, print-Range, print-Array, print-Struct, print-Union, print-Enum, print-Cross, print-Sized, print-Builtin, print-Real, ok-Ref, ok-Def, ok-Pointer, ok-Function, ok-Const, ok-Volatile, ok-Range, ok-Array, ok-Struct, ok-Union, ok-Enum, ok-Cross, ok-Sized, ok-Builtin, ok-Real}
@@ -117,8 +118,8 @@ pub array_shaped : (p : TypeTree × (Numeral × (Numeral × TypeTree))) → Arra
 array_shaped p f = ok-Array p.0 p.1.0 p.1.1.0 p.1.1.1 ∙ and_from (ok p.0) _ f.0 (and_from (numeral_ok p.1.0) _ f.1.0 (and_from (numeral_ok p.1.1.0) (ok p.1.1.1) f.1.1.0 f.1.1.1))
 
 -- a size and fields
-body_shaped : (p : ℕ × List Field) → BodyParts p → (nat_le p.0 greatest_number && (all_of left (map ok_field p.1) && first_fine (map ok_field p.1))) ≡ true
-body_shaped p f = and_from (nat_le p.0 greatest_number) _ f.0 (and_from (all_of left (map ok_field p.1)) (first_fine (map ok_field p.1)) (lefts_to p.1 f.1.0) (fine_to p.1 f.1.1))
+body_shaped : (p : ℕ × List Field) → BodyParts p → (nat_le p.0 GREATEST_NUMBER && (all_of left (map ok_field p.1) && first_fine (map ok_field p.1))) ≡ true
+body_shaped p f = and_from (nat_le p.0 GREATEST_NUMBER) _ f.0 (and_from (all_of left (map ok_field p.1)) (first_fine (map ok_field p.1)) (lefts_to p.1 f.1.0) (fine_to p.1 f.1.1))
 
 -- a structure
 pub struct_shaped : (p : ℕ × List Field) → BodyParts p → Shaped (a_struct p)
@@ -130,11 +131,11 @@ union_shaped p f = ok-Union p.0 p.1 ∙ body_shaped p f
 
 -- a type with its size
 pub sized_shaped : (p : ℕ × TypeTree) → SizedParts p → Shaped (a_sized p)
-sized_shaped p f = ok-Sized p.0 p.1 ∙ and_from (nat_le p.0 greatest_number) (ok p.1) f.0 f.1
+sized_shaped p f = ok-Sized p.0 p.1 ∙ and_from (nat_le p.0 GREATEST_NUMBER) (ok p.1) f.0 f.1
 
 -- a floating point type
 pub real_shaped : (p : ℕ × (ℕ × ℕ)) → RealParts p → Shaped (a_real p)
-real_shaped p f = ok-Real p.0 p.1.0 p.1.1 ∙ and_from (nat_le p.0 greatest_number) _ f.0 (and_from (nat_le p.1.0 greatest_number) (nat_le p.1.1 greatest_number) f.1.0 f.1.1)
+real_shaped p f = ok-Real p.0 p.1.0 p.1.1 ∙ and_from (nat_le p.0 GREATEST_NUMBER) _ f.0 (and_from (nat_le p.1.0 GREATEST_NUMBER) (nat_le p.1.1 GREATEST_NUMBER) f.1.0 f.1.1)
 
 -- ---- where each form stands in the choice
 
@@ -247,9 +248,9 @@ abbrev Sorts : TypeTree → Type 0
 Sorts t = Shaped t → FromPointer t
 
 -- the parts of a body
-body_parts : (size : ℕ) (fields : List Field) → (nat_le size greatest_number && (all_of left (map ok_field fields) && first_fine (map ok_field fields))) ≡ true → BodyParts (size, fields)
+body_parts : (size : ℕ) (fields : List Field) → (nat_le size GREATEST_NUMBER && (all_of left (map ok_field fields) && first_fine (map ok_field fields))) ≡ true → BodyParts (size, fields)
 body_parts size fields e =
-    let a = and_parts (nat_le size greatest_number) (all_of left (map ok_field fields) && first_fine (map ok_field fields)) e in
+    let a = and_parts (nat_le size GREATEST_NUMBER) (all_of left (map ok_field fields) && first_fine (map ok_field fields)) e in
     let b = and_parts (all_of left (map ok_field fields)) (first_fine (map ok_field fields)) a.1 in
     (a.0, (lefts_from fields b.0, fine_from fields b.1))
 
@@ -272,11 +273,11 @@ sorts_layer (TypeTree-F.Struct size fields) = subst Sorts (sym (rolls-Struct siz
 sorts_layer (TypeTree-F.Union size fields) = subst Sorts (sym (rolls-Union size fields)) (λ e. in_union _ (inl ((size, fields), body_parts size fields (sym (ok-Union size fields) ∙ e), refl)))
 sorts_layer (TypeTree-F.Enum choices) = subst Sorts (sym (rolls-Enum choices)) (λ e. in_enum _ (inl (choices, sym (ok-Enum choices) ∙ e, refl)))
 sorts_layer (TypeTree-F.Cross tag name) = subst Sorts (sym (rolls-Cross tag name)) (λ e. in_cross _ (inl ((tag, name), (tt, sym (ok-Cross tag name) ∙ e), refl)))
-sorts_layer (TypeTree-F.Sized bits t) = subst Sorts (sym (rolls-Sized bits t)) (λ e. in_sized _ (inl ((bits, t), and_parts (nat_le bits greatest_number) (ok t) (sym (ok-Sized bits t) ∙ e), refl)))
+sorts_layer (TypeTree-F.Sized bits t) = subst Sorts (sym (rolls-Sized bits t)) (λ e. in_sized _ (inl ((bits, t), and_parts (nat_le bits GREATEST_NUMBER) (ok t) (sym (ok-Sized bits t) ∙ e), refl)))
 sorts_layer (TypeTree-F.Builtin n) = subst Sorts (sym (rolls-Builtin n)) (λ e. in_builtin _ (inl (n, sym (ok-Builtin n) ∙ e, refl)))
 sorts_layer (TypeTree-F.Real a b c) = subst Sorts (sym (rolls-Real a b c)) (λ e.
-    let k = and_parts (nat_le a greatest_number) (nat_le b greatest_number && nat_le c greatest_number) (sym (ok-Real a b c) ∙ e) in
-    in_real _ (inl ((a, (b, c)), (k.0, and_parts (nat_le b greatest_number) (nat_le c greatest_number) k.1), refl)))
+    let k = and_parts (nat_le a GREATEST_NUMBER) (nat_le b GREATEST_NUMBER && nat_le c GREATEST_NUMBER) (sym (ok-Real a b c) ∙ e) in
+    in_real _ (inl ((a, (b, c)), (k.0, and_parts (nat_le b GREATEST_NUMBER) (nat_le c GREATEST_NUMBER) k.1), refl)))
 
 -- for each type
 pub sorts : (t : TypeTree) → Shaped t → FromPointer t

@@ -17,3 +17,8 @@ mod Spread
 mod Renamed
 mod Marks
 mod ShapeLaws
+pub mod WalkLemmas
+pub mod NumberLemmas
+mod OpeningLemmas
+mod PlacedLemmas
+mod Twice

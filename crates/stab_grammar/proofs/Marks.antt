@@ -5,7 +5,8 @@ use Rattle.std.specs.Prelude.{decimal, nat_le, ◌&&◌}
 use Rattle.std.proofs.lemmas.Bool.{and_parts, and_from, leb-true}
 use Rattle.std.proofs.lemmas.Fmt.{decimal_digit}
 use Rattle.readers.specs.Spelling.{ended, all_of}
-use Rattle.readers.specs.Words.{is_digit}
+use Rattle.readers.specs.Words.{is_digit, is_name, in_name, is_digits}
+use Rattle.stab_grammar.specs.declared.limits.TheConstants.{GREATEST_FILE, GREATEST_NUMBER, MOST_DIGITS}
 use Rattle.stab_grammar.specs.declared.tree.Num.{Num}
 use Rattle.stab_grammar.specs.declared.tree.Num.TheVariants.{Plain, Pair}
 use Rattle.stab_grammar.specs.declared.tree.Numeral.{Numeral}
@@ -19,7 +20,7 @@ use Rattle.stab_grammar.specs.declared.tree.TypeTree.TheOpen.{TypeTree-F, Field-
 use Rattle.stab_grammar.specs.declared.tree.TypeTree.TheViews.{roll-TypeTree}
 use Rattle.stab_grammar.specs.declared.tree.TypeTree.TheFolds.{fold-roll-TypeTree, fold-roll-Field, map-TypeTree}
 use Rattle.stab_grammar.specs.Spelling.{num, numeral, tag_letter, choice, same, step, field_step, print_of, print_field}
-use Rattle.stab_grammar.specs.Shape.{greatest_number, greatest_file, refused, refused_item, name_byte, name_ok, num_ok, digits_ok, numeral_ok, value_ok, choice_ok, begins_digit, begins_stack, field_ok, left, first_fine, ok_step, ok, ok_field}
+use Rattle.stab_grammar.specs.Shape.{refused, refused_item, num_ok, numeral_ok, value_ok, choice_ok, begins_digit, begins_stack, field_ok, left, first_fine, ok_step, ok, ok_field}
 use Rattle.stab_grammar.specs.Files.{num_shape, shape_step, tree_shape, field_shape, num_with, file_0}
 use Rattle.stab_grammar.proofs.Levels as levels
 use Rattle.stab_grammar.proofs.Equations.{by_layer}
@@ -56,21 +57,21 @@ pub marks_end : (b : ℕ) {a : Bool} {p q : List ℕ} {c : Bool} → eqb b 40 �
 marks_end b {p = p} miss m = record { says = λ e. let f = m.says e in (spread-append p (b ∷ []) ∙ joined _ _ _ _ f.0 (plain_byte b [] [] miss refl), f.1) }
 
 -- a number
-marks_number : (n : ℕ) → Marks (nat_le n greatest_number) (decimal n) (decimal n) (nat_le n greatest_number)
-marks_number n = record { says = λ e. let le = leb-true n greatest_number e in (spread_decimal n (omega (arith, le)), e) }
+marks_number : (n : ℕ) → Marks (nat_le n GREATEST_NUMBER) (decimal n) (decimal n) (nat_le n GREATEST_NUMBER)
+marks_number n = record { says = λ e. let le = leb-true n GREATEST_NUMBER e in (spread_decimal n (omega (arith, le)), e) }
 
 -- a type number
 marks_num : (n : Num) → Marks (num_ok n) (num_shape n) (num (num_with file_0 n)) (num_ok (num_with file_0 n))
 marks_num (Plain n) = marks_number n
 marks_num (Pair f n) = record {
   says = λ e.
-      let k = and_parts (nat_le f greatest_file) (nat_le n greatest_number) e in
+      let k = and_parts (nat_le f GREATEST_FILE) (nat_le n GREATEST_NUMBER) e in
       let m = (marks_end 41 refl (marks_number n)).says k.1 in
       (rw (decimal_digit 0 (omega arith)) (ap (λ (z : List ℕ). 40 ∷ (48 ∷ z)) (plain_byte 44 _ _ refl m.0)), m.1);
 }
 
 -- digits
-marks_digits : (digits : List ℕ) → Marks (digits_ok digits) digits digits (digits_ok digits)
+marks_digits : (digits : List ℕ) → Marks (is_digits MOST_DIGITS digits) digits digits (is_digits MOST_DIGITS digits)
 marks_digits digits = record {
   says = λ e.
       let k = and_parts (nat_le 1 (length digits)) _ e in
@@ -91,8 +92,8 @@ marks_value (Digits true digits) = marks_byte 45 refl (marks_digits digits)
 marks_value (Digits false digits) = marks_digits digits
 
 -- a name
-pub marks_name : (test : ℕ → Bool) → name_byte test 48 ≡ true → (name : List ℕ) → Marks (name_ok test name) name (spread name) (name_ok test (spread name))
-marks_name test zero name = record { says = λ e. (refl, all_spread (name_byte test) name zero e) }
+pub marks_name : (test : ℕ → Bool) → in_name test 58 48 ≡ true → (name : List ℕ) → Marks (is_name test 58 name) name (spread name) (is_name test 58 (spread name))
+marks_name test zero name = record { says = λ e. (refl, all_spread (in_name test 58) name zero e) }
 
 -- a choice
 marks_choice : (c : Choice) → Marks (choice_ok c) (choice c) (choice (renamed_choice spread c)) (choice_ok (renamed_choice spread c))
@@ -143,7 +144,7 @@ first_same [] = refl
 first_same (f ∷ fields) = ap not f.1.1
 
 -- a size and fields
-marks_body : (size : ℕ) (fields : List Member) → Marks (nat_le size greatest_number && (all_of left (map ok_field (plain fields)) && first_fine (map ok_field (plain fields)))) (decimal size ++ ended same (59 ∷ []) (map field_shape (plain fields))) (decimal size ++ ended same (59 ∷ []) (map print_field (others fields))) (nat_le size greatest_number && (all_of left (map ok_field (others fields)) && first_fine (map ok_field (others fields))))
+marks_body : (size : ℕ) (fields : List Member) → Marks (nat_le size GREATEST_NUMBER && (all_of left (map ok_field (plain fields)) && first_fine (map ok_field (plain fields)))) (decimal size ++ ended same (59 ∷ []) (map field_shape (plain fields))) (decimal size ++ ended same (59 ∷ []) (map print_field (others fields))) (nat_le size GREATEST_NUMBER && (all_of left (map ok_field (others fields)) && first_fine (map ok_field (others fields))))
 marks_body size fields = marks_both (marks_number size) (record {
   says = λ e.
       let k = and_parts (all_of left (map ok_field (plain fields))) _ e in

@@ -4,7 +4,7 @@ use Rattle.std.specs.Prelude.{decimal, nat_le, ◌||◌}
 use Rattle.std.proofs.lemmas.Bool.{leb-true, and_parts, and_from, or_right}
 use Rattle.readers.specs.Spelling.{none, ended, all_of}
 use Rattle.readers.specs.Readers.{seq, made, choose, done, byte_at, closed, many}
-use Rattle.readers.specs.Words.{is_digit, number_at, name_at}
+use Rattle.readers.specs.Words.{is_digit, number_at, name_at, is_name, is_digits}
 use Rattle.readers.proofs.Cuts.{any, any_after, none-append}
 use Rattle.readers.proofs.Laws.{Laws, leaf}
 use Rattle.readers.proofs.Seq.{seq_laws}
@@ -16,6 +16,7 @@ use Rattle.readers.proofs.Many.{many_laws}
 use Rattle.readers.proofs.Numbers.{no_digit}
 use Rattle.readers.proofs.Starts.{Starts, apart_of, starts_as, starts_decimal}
 use Rattle.readers.proofs.Tests.{each_from, each_to, number_part, name_part, digits_part, starts_digits, name_apart}
+use Rattle.stab_grammar.specs.declared.limits.TheConstants.{GREATEST_FILE, GREATEST_NUMBER, MOST_DIGITS}
 use Rattle.stab_grammar.specs.declared.tree.Num.{Num}
 use Rattle.stab_grammar.specs.declared.tree.Num.TheVariants.{Plain, Pair}
 use Rattle.stab_grammar.specs.declared.tree.Numeral.{Numeral}
@@ -24,26 +25,26 @@ use Rattle.stab_grammar.specs.declared.tree.Tag.{Tag}
 use Rattle.stab_grammar.specs.declared.tree.Tag.TheVariants as tags
 use Rattle.stab_grammar.specs.declared.tree.Choice.{Choice}
 use Rattle.stab_grammar.specs.Spelling.{num, numeral, tag_letter, choice}
-use Rattle.stab_grammar.specs.Shape.{greatest_number, greatest_file, refused, refused_item, name_ok, num_ok, digits_ok, numeral_ok, value_ok, choice_ok}
+use Rattle.stab_grammar.specs.Shape.{refused, refused_item, num_ok, numeral_ok, value_ok, choice_ok}
 use Rattle.stab_grammar.specs.Grammar.{plain_number, a_pair, num_at, unbounded, digits_at, value_at, numeral_at, a_choice, choice_at, a_struct_tag, a_union_tag, an_enum_tag, tag_at, cross_at, real_at}
 
 -- ---- numbers
 
 -- at most the greatest number
 abbrev pub NumberOk : ℕ → Type 0
-NumberOk k = nat_le k greatest_number ≡ true
+NumberOk k = nat_le k GREATEST_NUMBER ≡ true
 
 -- at most the greatest file
 abbrev pub FileOk : ℕ → Type 0
-FileOk k = nat_le k greatest_file ≡ true
+FileOk k = nat_le k GREATEST_FILE ≡ true
 
 -- a number, a size, a bit position
 pub plain_part : (n : ℕ) → Laws n plain_number (leaf decimal NumberOk) no_digit
-plain_part n = number_part n greatest_number (omega arith) (omega arith)
+plain_part n = number_part n GREATEST_NUMBER (omega arith) (omega arith)
 
 -- a number begins with a digit
 pub starts_number : (k : ℕ) → NumberOk k → Starts is_digit (decimal k)
-starts_number k e = let le = leb-true k greatest_number e in starts_decimal k (omega (arith, le))
+starts_number k e = let le = leb-true k GREATEST_NUMBER e in starts_decimal k (omega (arith, le))
 
 -- a number and the byte behind it
 pub number_and_part : (n b : ℕ) → no_digit b ≡ true → Laws n (closed plain_number b) (closed_form (leaf decimal NumberOk) b) any
@@ -75,13 +76,13 @@ NumOk t = num_ok t ≡ true
 
 -- either is one
 num_to : (t : Num) → Of a_pair PairParts t ⊎ PlainNumber t → NumOk t
-num_to t (inl f) = let w : NumOk (a_pair f.0) = and_from (nat_le f.0.0 greatest_file) (nat_le f.0.1 greatest_number) f.1.0 f.1.1 in subst NumOk f.2 w
+num_to t (inl f) = let w : NumOk (a_pair f.0) = and_from (nat_le f.0.0 GREATEST_FILE) (nat_le f.0.1 GREATEST_NUMBER) f.1.0 f.1.1 in subst NumOk f.2 w
 num_to t (inr f) = let w : NumOk (Plain f.0) = f.1 in subst NumOk f.2 w
 
 -- and each is one of the two
 num_from : (t : Num) → NumOk t → Of a_pair PairParts t ⊎ PlainNumber t
 num_from (Plain k) e = inr (k, e, refl)
-num_from (Pair f k) e = let m = and_parts (nat_le f greatest_file) (nat_le k greatest_number) e in inl ((f, k), (m.0, m.1), refl)
+num_from (Pair f k) e = let m = and_parts (nat_le f GREATEST_FILE) (nat_le k GREATEST_NUMBER) e in inl ((f, k), (m.0, m.1), refl)
 
 -- a plain number doesn't begin with `(`
 plain_apart : (t : Num) → PlainNumber t → Apart 40 (num t)
@@ -91,12 +92,12 @@ plain_apart t f = let w : Apart 40 (num (Plain f.0)) = apart_of is_digit 40 refl
 pub num_part : (n : ℕ) → Laws n num_at (leaf num NumOk) no_digit
 unfolding num_at
 num_part n =
-    let small = number_part n greatest_file (omega arith) (omega arith) in
-    let first = closed_laws n (number_at greatest_file) _ no_digit small 44 refl in
-    let both = seq_laws n (closed (number_at greatest_file) 44) _ any first (closed plain_number 41) _ any (number_and_part n 41 refl) (λ k rest f after. any_after _) 0 refl in
-    let pairs = reshape_laws n (seq (closed (number_at greatest_file) 44) (closed plain_number 41)) _ any both PairParts no_digit (λ p f. f) (λ p f. f) (λ c e. refl) in
+    let small = number_part n GREATEST_FILE (omega arith) (omega arith) in
+    let first = closed_laws n (number_at GREATEST_FILE) _ no_digit small 44 refl in
+    let both = seq_laws n (closed (number_at GREATEST_FILE) 44) _ any first (closed plain_number 41) _ any (number_and_part n 41 refl) (λ k rest f after. any_after _) 0 refl in
+    let pairs = reshape_laws n (seq (closed (number_at GREATEST_FILE) 44) (closed plain_number 41)) _ any both PairParts no_digit (λ p f. f) (λ p f. f) (λ c e. refl) in
     let plains = made_laws n plain_number _ no_digit (plain_part n) Plain num num_depths (λ k f. refl) (λ k f. refl) in
-    let all = choose_laws n (seq (closed (number_at greatest_file) 44) (closed plain_number 41)) _ no_digit pairs a_pair 40 num num_depths (λ p. refl) (λ p. refl) (made Plain plain_number) PlainNumber plains plain_apart (0, 0) (refl, refl) in
+    let all = choose_laws n (seq (closed (number_at GREATEST_FILE) 44) (closed plain_number 41)) _ no_digit pairs a_pair 40 num num_depths (λ p. refl) (λ p. refl) (made Plain plain_number) PlainNumber plains plain_apart (0, 0) (refl, refl) in
     leafed n num_at _ no_digit all num_plain NumOk no_digit num_to num_from (λ c e. e)
 
 -- a type number begins with `(` or a digit
@@ -108,7 +109,7 @@ starts_num (Pair f k) e = refl
 
 -- 1 to 40 digits
 abbrev DigitsOk : List ℕ → Type 0
-DigitsOk ds = digits_ok ds ≡ true
+DigitsOk ds = is_digits MOST_DIGITS ds ≡ true
 
 -- they keep the laws
 digits : (n : ℕ) → Laws n digits_at (leaf (λ ds. ds) DigitsOk) no_digit
@@ -194,7 +195,7 @@ choice_plain c = none-append (c.name ++ 58 ∷ []) (numeral c.number ++ 44 ∷ [
 
 -- a name of a field or choice
 abbrev pub ItemNameOk : List ℕ → Type 0
-ItemNameOk name = name_ok refused_item name ≡ true
+ItemNameOk name = is_name refused_item 58 name ≡ true
 
 -- the name of a field or choice, and `:`
 pub item_name_part : (n : ℕ) → Laws n (name_at refused_item 58) (leaf (λ name. name ++ (58 ∷ [])) ItemNameOk) any
@@ -210,11 +211,11 @@ ChoiceParts p = ItemNameOk p.0 × ValueOk p.1
 
 -- they make a choice with a spelling
 choice_to : (c : Choice) → Of a_choice ChoiceParts c → ChoiceOk c
-choice_to c f = let w : ChoiceOk (a_choice f.0) = and_from (name_ok refused_item f.0.0) (value_ok f.0.1) f.1.0 f.1.1 in subst ChoiceOk f.2 w
+choice_to c f = let w : ChoiceOk (a_choice f.0) = and_from (is_name refused_item 58 f.0.0) (value_ok f.0.1) f.1.0 f.1.1 in subst ChoiceOk f.2 w
 
 -- and each is made so
 choice_from : (c : Choice) → ChoiceOk c → Of a_choice ChoiceParts c
-choice_from c e = ((c.name, c.number), and_parts (name_ok refused_item c.name) (value_ok c.number) e, refl)
+choice_from c e = ((c.name, c.number), and_parts (is_name refused_item 58 c.name) (value_ok c.number) e, refl)
 
 -- a choice keeps the laws
 pub choice_part : (n : ℕ) → Laws n choice_at (leaf choice ChoiceOk) any
@@ -237,7 +238,7 @@ choices_plain (c ∷ cs) = none-append (choice c) (ended choice (59 ∷ []) cs) 
 -- choices and `;` keep the laws
 pub choices_part : (n : ℕ) → Laws n (many 59 choice_at) (leaf (ended choice (59 ∷ [])) ChoicesOk) any
 choices_part n =
-    let all = many_laws n choice_at _ (choice_part n) 59 (λ c e. item_apart c.name (numeral c.number ++ 44 ∷ []) (and_parts (name_ok refused_item c.name) (value_ok c.number) e).0) in
+    let all = many_laws n choice_at _ (choice_part n) 59 (λ c e. item_apart c.name (numeral c.number ++ 44 ∷ []) (and_parts (is_name refused_item 58 c.name) (value_ok c.number) e).0) in
     leafed n (many 59 choice_at) _ any all choices_plain ChoicesOk any (λ cs e. each_to choice_ok cs e) (λ cs e. each_from choice_ok cs e) (λ c e. e)
 
 -- ---- cross references
@@ -280,7 +281,7 @@ tag_part n =
 
 -- a name of a symbol or of a cross reference
 abbrev pub NameOk : List ℕ → Type 0
-NameOk name = name_ok refused name ≡ true
+NameOk name = is_name refused 58 name ≡ true
 
 -- the name of a symbol or of a cross reference, and `:`
 pub symbol_name_part : (n : ℕ) → Laws n (name_at refused 58) (leaf (λ name. name ++ (58 ∷ [])) NameOk) any

@@ -1,5 +1,6 @@
 -- A type is known by itself with other files and by its own files: these are put back from left to right.
-use Rattle.std.proofs.Common.{◌≡◌, ℕ, List, [], ◌∷◌, ◌++◌, map, refl, sym, ap, ◌∙◌, append_assoc}
+use Rattle.std.proofs.Common.{◌≡◌, ℕ, true, List, [], ◌∷◌, ◌++◌, map, refl, sym, ap, ◌∙◌, append_assoc, append-nil}
+use Rattle.std.proofs.lemmas.Grind.{flat_map-append}
 use Rattle.std.specs.Prelude.{flat_map}
 use Rattle.stab_grammar.specs.declared.tree.Num.{Num}
 use Rattle.stab_grammar.specs.declared.tree.Num.TheVariants.{Plain, Pair}
@@ -10,7 +11,8 @@ use Rattle.stab_grammar.specs.declared.tree.TypeTree.TheVariants.{rolls-Ref, rol
 use Rattle.stab_grammar.specs.declared.tree.TypeTree.TheOpen.{TypeTree-F, Field-F}
 use Rattle.stab_grammar.specs.declared.tree.TypeTree.TheViews.{roll-TypeTree}
 use Rattle.stab_grammar.specs.declared.tree.TypeTree.TheFolds.{fold-TypeTree, fold-Field, fold-roll-TypeTree, fold-roll-Field, map-TypeTree}
-use Rattle.stab_grammar.specs.Files.{file_in, field_files, all_files, files_step, files_in, files_in_field, num_with, tree_with, field_with}
+use Rattle.stab_grammar.specs.Files.{file_in, files_in, num_with, tree_with, field_with}
+use Rattle.stab_grammar.specs.Walks.{all_of_them, field_numbers, numbers_step, numbers_in_field, all_numbers}
 use Rattle.stab_grammar.proofs.Levels as levels
 use Rattle.stab_grammar.proofs.WithFiles.{with_level, fold-with, fold-with-field}
 
@@ -75,7 +77,7 @@ module _ (change : ℕ → ℕ) where
   Back t = (rest : List ℕ) → take_tree (tree_with change t) (files_in t ++ rest) ≡ (t, rest)
 
   abbrev FieldBack : Field → Type 0
-  FieldBack f = (rest : List ℕ) → take_field (field_with change f) (files_in_field f ++ rest) ≡ (f, rest)
+  FieldBack f = (rest : List ℕ) → take_field (field_with change f) (flat_map file_in (numbers_in_field true f) ++ rest) ≡ (f, rest)
 
   abbrev Tree : Type 0
   Tree = levels.SoundTree Back FieldBack
@@ -89,27 +91,29 @@ module _ (change : ℕ → ℕ) where
   num_back (Pair f n) rest = refl
 
   -- fields
-  fields_back : (fields : List Member) (rest : List ℕ) → take_fields (map take_field (map (field_with change) (map (levels.field_of Back FieldBack) fields))) (flat_map all_files (map files_in_field (map (levels.field_of Back FieldBack) fields)) ++ rest) ≡ (map (levels.field_of Back FieldBack) fields, rest)
+  fields_back : (fields : List Member) (rest : List ℕ) → take_fields (map take_field (map (field_with change) (map (levels.field_of Back FieldBack) fields))) (flat_map file_in (flat_map all_of_them (map (numbers_in_field true) (map (levels.field_of Back FieldBack) fields))) ++ rest) ≡ (map (levels.field_of Back FieldBack) fields, rest)
   fields_back [] rest = refl
-  fields_back (f ∷ fields) rest = rw (append_assoc (files_in_field f.0) (flat_map all_files (map files_in_field (map (levels.field_of Back FieldBack) fields))) rest, f.1, fields_back fields rest) refl
+  fields_back (f ∷ fields) rest =
+      let others : List Num = flat_map all_of_them (map (numbers_in_field true) (map (levels.field_of Back FieldBack) fields)) in
+      rw (flat_map-append file_in (numbers_in_field true f.0) others, append_assoc (flat_map file_in (numbers_in_field true f.0)) (flat_map file_in others) rest, f.1, fields_back fields rest) refl
 
   -- the ways of the types and fields inside
   ways : TypeTree-F TypeTree Field → TypeTree-F (Taking TypeTree) (Taking Field)
   ways x = map-TypeTree TypeTree Field (Taking TypeTree) (Taking Field) take_tree take_field x
 
-  files_texts : TypeTree-F TypeTree Field → TypeTree-F (List ℕ) (List ℕ)
-  files_texts x = map-TypeTree TypeTree Field (List ℕ) (List ℕ) files_in files_in_field x
+  number_texts : TypeTree-F TypeTree Field → TypeTree-F (List Num) (List Num)
+  number_texts x = map-TypeTree TypeTree Field (List Num) (List Num) all_numbers (numbers_in_field true) x
 
-  back_level : (y : TypeTree-F Tree Member) (rest : List ℕ) → take_step (ways (with_level change (levels.level Back FieldBack y))) (files_step (files_texts (levels.level Back FieldBack y)) ++ rest) ≡ (roll-TypeTree (levels.level Back FieldBack y), rest)
-  unfolding ways files_texts
-  back_level (TypeTree-F.Ref n) rest = rw (num_back n rest, rolls-Ref n) refl
+  back_level : (y : TypeTree-F Tree Member) (rest : List ℕ) → take_step (ways (with_level change (levels.level Back FieldBack y))) (flat_map file_in (numbers_step true (number_texts (levels.level Back FieldBack y))) ++ rest) ≡ (roll-TypeTree (levels.level Back FieldBack y), rest)
+  unfolding ways number_texts
+  back_level (TypeTree-F.Ref n) rest = rw (append-nil (file_in n), num_back n rest, rolls-Ref n) refl
   back_level (TypeTree-F.Def n t) rest = rw (append_assoc (file_in n) (files_in t.0) rest, num_back n (files_in t.0 ++ rest), t.1 rest, rolls-Def n t.0) refl
   back_level (TypeTree-F.Pointer t) rest = rw (t.1 rest, rolls-Pointer t.0) refl
   back_level (TypeTree-F.Function t) rest = rw (t.1 rest, rolls-Function t.0) refl
   back_level (TypeTree-F.Const t) rest = rw (t.1 rest, rolls-Const t.0) refl
   back_level (TypeTree-F.Volatile t) rest = rw (t.1 rest, rolls-Volatile t.0) refl
   back_level (TypeTree-F.Range t low high) rest = rw (t.1 rest, rolls-Range t.0 low high) refl
-  back_level (TypeTree-F.Array i low high t) rest = rw (append_assoc (files_in i.0) (files_in t.0) rest, i.1 (files_in t.0 ++ rest), t.1 rest, rolls-Array i.0 low high t.0) refl
+  back_level (TypeTree-F.Array i low high t) rest = rw (flat_map-append file_in (all_numbers i.0) (all_numbers t.0), append_assoc (files_in i.0) (files_in t.0) rest, i.1 (files_in t.0 ++ rest), t.1 rest, rolls-Array i.0 low high t.0) refl
   back_level (TypeTree-F.Struct size fields) rest = rw (fields_back fields rest, rolls-Struct size (map (levels.field_of Back FieldBack) fields)) refl
   back_level (TypeTree-F.Union size fields) rest = rw (fields_back fields rest, rolls-Union size (map (levels.field_of Back FieldBack) fields)) refl
   back_level (TypeTree-F.Enum choices) rest = rw (rolls-Enum choices) refl
@@ -119,10 +123,10 @@ module _ (change : ℕ → ℕ) where
   back_level (TypeTree-F.Real a b c) rest = rw (rolls-Real a b c) refl
 
   back_tree : (y : TypeTree-F Tree Member) → Back (roll-TypeTree (levels.level Back FieldBack y))
-  unfolding ways files_texts
+  unfolding ways number_texts
   back_tree y rest =
       let x = levels.level Back FieldBack y in
-      let files : files_in (roll-TypeTree x) ≡ files_step (files_texts x) = fold-roll-TypeTree (List ℕ) (List ℕ) files_step field_files x in
+      let files : files_in (roll-TypeTree x) ≡ flat_map file_in (numbers_step true (number_texts x)) = ap (flat_map file_in) (fold-roll-TypeTree (List Num) (List Num) (numbers_step true) field_numbers x) in
       ap (λ (z : Taking TypeTree). z (files_in (roll-TypeTree x) ++ rest)) (fold-with (Taking TypeTree) (Taking Field) take_step take_field_step change x)
       ∙ ap (λ (z : List ℕ). take_step (ways (with_level change x)) (z ++ rest)) files
       ∙ back_level y rest
@@ -130,8 +134,8 @@ module _ (change : ℕ → ℕ) where
   back_field : (y : Field-F Tree Member) → FieldBack (roll-Field (levels.field_level Back FieldBack y))
   back_field y rest =
       let f = levels.field_level Back FieldBack y in
-      let files : files_in_field (roll-Field f) ≡ files_in y.tree.0 = fold-roll-Field (List ℕ) (List ℕ) files_step field_files f in
-      ap (λ (z : Taking Field). z (files_in_field (roll-Field f) ++ rest)) (fold-with-field (Taking TypeTree) (Taking Field) take_step take_field_step change f)
+      let files : flat_map file_in (numbers_in_field true (roll-Field f)) ≡ files_in y.tree.0 = ap (flat_map file_in) (fold-roll-Field (List Num) (List Num) (numbers_step true) field_numbers f) in
+      ap (λ (z : Taking Field). z (flat_map file_in (numbers_in_field true (roll-Field f)) ++ rest)) (fold-with-field (Taking TypeTree) (Taking Field) take_step take_field_step change f)
       ∙ ap (λ (z : List ℕ). remade (field_from f) (take_tree (tree_with change y.tree.0) (z ++ rest))) files
       ∙ ap (remade (field_from f)) (y.tree.1 rest)
 

@@ -6,10 +6,11 @@ use Rattle.stab_grammar.specs.declared.tree.Descriptor.TheVariants as descriptor
 use Rattle.stab_grammar.specs.declared.tree.Symbol.{Symbol}
 use Rattle.stab_grammar.specs.Spelling.{letters, print_symbol}
 use Rattle.stab_grammar.specs.Shape.{refused, descriptor_ok, ShapedSymbol}
-use Rattle.stab_grammar.specs.Files.{files_of, shape_of, symbol_with, new_file, renumbered, file_0, DifferInFiles}
+use Rattle.stab_grammar.specs.Files.{files_of, shape_of, with_files, file_0, DifferInFiles}
 use Rattle.stab_grammar.proofs.AnyDepth.{one_symbol, same_parts}
 use Rattle.stab_grammar.proofs.WithFiles.{shape-with, files-with}
-use Rattle.stab_grammar.proofs.PutBack.{known}
+use Rattle.stab_grammar.proofs.PutBack.{known as tree_known}
+use Rattle.stab_grammar.proofs.Twice.{at_once}
 use Rattle.stab_grammar.proofs.Spread.{spread, gather, gathered}
 use Rattle.stab_grammar.proofs.Renamed.{renamed, names_back}
 use Rattle.stab_grammar.proofs.Marks.{Marks, marks_both, marks_end, marks_name, marks, stack_same}
@@ -17,16 +18,16 @@ use Rattle.stab_grammar.proofs.Marks.{Marks, marks_both, marks_end, marks_name, 
 -- ---- other files
 
 -- the shape stays
-pub shape_kept : (files : List ℕ) (s : Symbol) → shape_of (renumbered files s) ≡ shape_of s
-shape_kept files s = ap (λ (z : List ℕ). (s.name ++ 58 ∷ []) ++ (letters s.descriptor ++ z)) (shape-with (new_file files) s.tree)
+pub shape_kept : (change : ℕ → ℕ) (s : Symbol) → shape_of (with_files change s) ≡ shape_of s
+shape_kept change s = ap (λ (z : List ℕ). (s.name ++ 58 ∷ []) ++ (letters s.descriptor ++ z)) (shape-with change s.tree)
 
--- the files are the items of the list, in the same order
-pub files_new : (files : List ℕ) (s : Symbol) → files_of (renumbered files s) ≡ map (new_file files) (files_of s)
-files_new files s = files-with (new_file files) s.tree
+-- the files are the changed ones, in the same order
+pub files_new : (change : ℕ → ℕ) (s : Symbol) → files_of (with_files change s) ≡ map change (files_of s)
+files_new change s = files-with change s.tree
 
--- 0 for each file changes no shape
-no_files : (s : Symbol) → shape_of (symbol_with file_0 s) ≡ shape_of s
-no_files s = ap (λ (z : List ℕ). (s.name ++ 58 ∷ []) ++ (letters s.descriptor ++ z)) (shape-with file_0 s.tree)
+-- with 0 for each file it is as if they had not been changed
+pub again : (change : ℕ → ℕ) (s : Symbol) → with_files file_0 (with_files change s) ≡ with_files file_0 s
+again change s = ap (λ (t : TypeTree). record { name = s.name; descriptor = s.descriptor; tree = t }) (at_once change file_0 s.tree)
 
 -- ---- a symbol with its names spread and no files
 
@@ -34,7 +35,7 @@ abbrev renamed_symbol : (List ℕ → List ℕ) → Symbol → Symbol
 renamed_symbol rename s = record { name = rename s.name; descriptor = s.descriptor; tree = renamed rename s.tree }
 
 -- the names have their bytes back
-symbol_back : (s : Symbol) → renamed_symbol gather (renamed_symbol spread s) ≡ symbol_with file_0 s
+symbol_back : (s : Symbol) → renamed_symbol gather (renamed_symbol spread s) ≡ with_files file_0 s
 symbol_back s = same_parts _ _ (gathered s.name) refl (names_back s.tree)
 
 -- no descriptor has a `(`
@@ -91,7 +92,7 @@ differ s t f g e =
 
 -- symbols that differ in files alone have one shape
 alike : (s t : Symbol) → DifferInFiles s t → shape_of s ≡ shape_of t
-alike s t e = sym (no_files s) ∙ ap shape_of e ∙ no_files t
+alike s t e = sym (shape_kept file_0 s) ∙ ap shape_of e ∙ shape_kept file_0 t
 
 -- two shaped symbols have equal shapes exactly where they differ in files alone
 pub exactly : (s t : Symbol) → ShapedSymbol s → ShapedSymbol t → (shape_of s ≡ shape_of t) ↔ DifferInFiles s t
@@ -101,8 +102,12 @@ exactly s t f g = (differ s t f g, alike s t)
 name_same : (s t : Symbol) → s ≡ t → (s.name ≡ t.name) × (s.descriptor ≡ t.descriptor) × (s.tree ≡ t.tree)
 name_same s t e = (ap (λ (z : Symbol). z.name) e, ap (λ (z : Symbol). z.descriptor) e, ap (λ (z : Symbol). z.tree) e)
 
+-- two symbols that differ in files alone and have the same files are one
+pub known : (s t : Symbol) → DifferInFiles s t → files_of s ≡ files_of t → s ≡ t
+known s t e h =
+    let k = name_same (with_files file_0 s) (with_files file_0 t) e in
+    same_parts s t k.0 k.1 (tree_known file_0 s.tree t.tree k.2 h)
+
 -- two shaped symbols of one shape with the same files are one
 pub determined : (s t : Symbol) → ShapedSymbol s → ShapedSymbol t → shape_of s ≡ shape_of t → files_of s ≡ files_of t → s ≡ t
-determined s t f g e h =
-    let k = name_same (symbol_with file_0 s) (symbol_with file_0 t) (differ s t f g e) in
-    same_parts s t k.0 k.1 (known file_0 s.tree t.tree k.2 h)
+determined s t f g e h = known s t (differ s t f g e) h

@@ -5,7 +5,7 @@ use Rattle.std.proofs.lemmas.Bool.{eqb-true, and_parts, and_from, not-true, not_
 use Rattle.std.proofs.lemmas.Fmt.{decimal_digit}
 use Rattle.readers.specs.Spelling.{Form, none}
 use Rattle.readers.specs.Readers.{Reader, seq, done, optional, unless}
-use Rattle.readers.specs.Words.{is_digit, name_at}
+use Rattle.readers.specs.Words.{is_digit, name_at, is_name}
 use Rattle.readers.proofs.Cases.{which}
 use Rattle.readers.proofs.Cuts.{any, any_after}
 use Rattle.readers.proofs.Laws.{Laws}
@@ -17,6 +17,7 @@ use Rattle.readers.proofs.Optional.{opt_print, opt_shaped, optional_laws}
 use Rattle.readers.proofs.Unless.{NotFirst, unless_laws}
 use Rattle.readers.proofs.Starts.{Starts, starts_solid, after_starts}
 use Rattle.readers.proofs.Alternatives.{Alternatives, or_alternative, or_laws}
+use Rattle.stab_grammar.specs.declared.limits.TheConstants.{GREATEST_DEPTH}
 use Rattle.stab_grammar.specs.declared.tree.Num.TheVariants.{Plain}
 use Rattle.stab_grammar.specs.declared.tree.TypeTree.{TypeTree}
 use Rattle.stab_grammar.specs.declared.tree.TypeTree.TheVariants.{Ref}
@@ -25,7 +26,7 @@ use Rattle.stab_grammar.specs.declared.tree.Descriptor.TheVariants as descriptor
 use Rattle.stab_grammar.specs.declared.tree.Symbol.{Symbol}
 use Rattle.stab_grammar.specs.Spelling.{print_of, letters, print_symbol}
 use Rattle.stab_grammar.specs.Depth.{depths_of, depths_symbol}
-use Rattle.stab_grammar.specs.Shape.{refused, name_ok, begins_stack, descriptor_ok, ok, Shaped, ShapedSymbol}
+use Rattle.stab_grammar.specs.Shape.{refused, begins_stack, descriptor_ok, ok, Shaped, ShapedSymbol}
 use Rattle.stab_grammar.specs.Grammar.{begins_type, type_at, Described, described, tagged, a_tagged, no_stack, stack_at, described_at, a_symbol, symbol_at}
 use Rattle.stab_grammar.specs.StringFaults.{symbol_form}
 use Rattle.stab_grammar.proofs.Equations.{print-Ref, ok-Ref}
@@ -54,11 +55,11 @@ described_form = record { print = print; depths = depths; shaped = DescribedOk }
 
 -- a descriptor, and the type that a spelling begins with
 abbrev R : Reader TypeTree
-R = type_at 100
+R = type_at GREATEST_DEPTH
 
 -- types of depth 100 keep the laws
-types : Laws 100 R tree_form ends_type
-types = type_laws 100
+types : Laws GREATEST_DEPTH R tree_form ends_type
+types = type_laws GREATEST_DEPTH
 
 -- the type `0`
 abbrev zero_type : TypeTree
@@ -119,11 +120,11 @@ zero_first : NotFirst no_stack (print_of zero_type)
 zero_first = rw (print-Ref (Plain 0), decimal_digit 0 (omega arith)) refl
 
 -- no descriptor keeps the laws
-stack_laws : Laws 100 (stack_at R) (record { print = print; depths = depths; shaped = IsStack }) ends_type
+stack_laws : Laws GREATEST_DEPTH (stack_at R) (record { print = print; depths = depths; shaped = IsStack }) ends_type
 stack_laws =
     let solid : (t : TypeTree) → Shaped t → 1 ≤ length (print_of t) = λ t f. starts_solid begins_type (print_of t) (type_starts t f) in
-    let part = unless_laws 100 R tree_form ends_type types no_stack solid zero_type zero_shaped zero_first in
-    made_laws 100 (unless no_stack R) _ ends_type part (described descriptors.Stack) print depths (λ t f. refl) (λ t f. refl)
+    let part = unless_laws GREATEST_DEPTH R tree_form ends_type types no_stack solid zero_type zero_shaped zero_first in
+    made_laws GREATEST_DEPTH (unless no_stack R) _ ends_type part (described descriptors.Stack) print depths (λ t f. refl) (λ t f. refl)
 
 -- ---- tags
 
@@ -158,10 +159,10 @@ type_no_t b e = elim (which (eqb b 116)) [
 ]
 
 -- `t` or not, and a type, keep the laws
-tagged_part : Laws 100 (seq (optional 116 done) R) (record { print = λ p. opt_print 116 (λ u. []) p.0 ++ print_of p.1; depths = λ p. opt_print 0 (λ u. []) p.0 ++ depths_of p.1; shaped = TaggedParts }) ends_type
+tagged_part : Laws GREATEST_DEPTH (seq (optional 116 done) R) (record { print = λ p. opt_print 116 (λ u. []) p.0 ++ print_of p.1; depths = λ p. opt_print 0 (λ u. []) p.0 ++ depths_of p.1; shaped = TaggedParts }) ends_type
 tagged_part =
-    let perhaps = optional_laws 100 done empty_form any (done_laws 100) 116 no_t (λ c e. not-true (eqb c 116) e) (λ c e. refl) in
-    seq_laws 100 (optional 116 done) _ no_t perhaps R tree_form ends_type types (λ t rest f after. after_starts begins_type no_t type_no_t (print_of t) rest (type_starts t f)) zero_type zero_shaped
+    let perhaps = optional_laws GREATEST_DEPTH done empty_form any (done_laws GREATEST_DEPTH) 116 no_t (λ c e. not-true (eqb c 116) e) (λ c e. refl) in
+    seq_laws GREATEST_DEPTH (optional 116 done) _ no_t perhaps R tree_form ends_type types (λ t rest f after. after_starts begins_type no_t type_no_t (print_of t) rest (type_starts t f)) zero_type zero_shaped
 
 -- ---- the choice, from the last descriptor to the first
 
@@ -295,22 +296,22 @@ sorts descriptors.StaticFun t e = in_static_fun _ (inl (t, e, refl))
 -- ---- the laws
 
 -- a descriptor and a type keep the laws
-described_laws : Laws 100 (described_at R) described_form ends_type
+described_laws : Laws GREATEST_DEPTH (described_at R) described_form ends_type
 unfolding described_at
 described_laws =
-    let from_tag = or_laws 100 (seq (optional 116 done) R) _ ends_type tagged_part a_tagged 84 print depths (λ p. tagged_print p.0 p.1) (λ p. tagged_depths p.0 p.1) _ DescribedOk _ stack stack_laws refl (None, zero_type) (tt, zero_shaped) in
-    let from_typedef = or_laws 100 R tree_form ends_type types (described descriptors.Typedef) 116 print depths (λ t. refl) (λ t. refl) _ DescribedOk _ tag from_tag refl zero_type zero_shaped in
-    let from_ref_param = or_laws 100 R tree_form ends_type types (described descriptors.RefParam) 118 print depths (λ t. refl) (λ t. refl) _ DescribedOk _ typedef from_typedef refl zero_type zero_shaped in
-    let from_ref_reg_param = or_laws 100 R tree_form ends_type types (described descriptors.RefRegParam) 97 print depths (λ t. refl) (λ t. refl) _ DescribedOk _ ref_param from_ref_param refl zero_type zero_shaped in
-    let from_register = or_laws 100 R tree_form ends_type types (described descriptors.Register) 114 print depths (λ t. refl) (λ t. refl) _ DescribedOk _ ref_reg_param from_ref_reg_param refl zero_type zero_shaped in
-    let from_reg_param = or_laws 100 R tree_form ends_type types (described descriptors.RegParam) 80 print depths (λ t. refl) (λ t. refl) _ DescribedOk _ register from_register refl zero_type zero_shaped in
-    let from_param = or_laws 100 R tree_form ends_type types (described descriptors.Param) 112 print depths (λ t. refl) (λ t. refl) _ DescribedOk _ reg_param from_reg_param refl zero_type zero_shaped in
-    let from_proc_static = or_laws 100 R tree_form ends_type types (described descriptors.ProcStatic) 86 print depths (λ t. refl) (λ t. refl) _ DescribedOk _ param from_param refl zero_type zero_shaped in
-    let from_file_static = or_laws 100 R tree_form ends_type types (described descriptors.FileStatic) 83 print depths (λ t. refl) (λ t. refl) _ DescribedOk _ proc_static from_proc_static refl zero_type zero_shaped in
-    let from_global = or_laws 100 R tree_form ends_type types (described descriptors.Global) 71 print depths (λ t. refl) (λ t. refl) _ DescribedOk _ file_static from_file_static refl zero_type zero_shaped in
-    let from_global_fun = or_laws 100 R tree_form ends_type types (described descriptors.GlobalFun) 70 print depths (λ t. refl) (λ t. refl) _ DescribedOk _ global from_global refl zero_type zero_shaped in
-    let from_static_fun = or_laws 100 R tree_form ends_type types (described descriptors.StaticFun) 102 print depths (λ t. refl) (λ t. refl) _ DescribedOk _ global_fun from_global_fun refl zero_type zero_shaped in
-    reshape_laws 100 (described_at R) _ ends_type from_static_fun DescribedOk ends_type static_fun.to (λ d e. sorts d.0 d.1 e) (λ c e. e)
+    let from_tag = or_laws GREATEST_DEPTH (seq (optional 116 done) R) _ ends_type tagged_part a_tagged 84 print depths (λ p. tagged_print p.0 p.1) (λ p. tagged_depths p.0 p.1) _ DescribedOk _ stack stack_laws refl (None, zero_type) (tt, zero_shaped) in
+    let from_typedef = or_laws GREATEST_DEPTH R tree_form ends_type types (described descriptors.Typedef) 116 print depths (λ t. refl) (λ t. refl) _ DescribedOk _ tag from_tag refl zero_type zero_shaped in
+    let from_ref_param = or_laws GREATEST_DEPTH R tree_form ends_type types (described descriptors.RefParam) 118 print depths (λ t. refl) (λ t. refl) _ DescribedOk _ typedef from_typedef refl zero_type zero_shaped in
+    let from_ref_reg_param = or_laws GREATEST_DEPTH R tree_form ends_type types (described descriptors.RefRegParam) 97 print depths (λ t. refl) (λ t. refl) _ DescribedOk _ ref_param from_ref_param refl zero_type zero_shaped in
+    let from_register = or_laws GREATEST_DEPTH R tree_form ends_type types (described descriptors.Register) 114 print depths (λ t. refl) (λ t. refl) _ DescribedOk _ ref_reg_param from_ref_reg_param refl zero_type zero_shaped in
+    let from_reg_param = or_laws GREATEST_DEPTH R tree_form ends_type types (described descriptors.RegParam) 80 print depths (λ t. refl) (λ t. refl) _ DescribedOk _ register from_register refl zero_type zero_shaped in
+    let from_param = or_laws GREATEST_DEPTH R tree_form ends_type types (described descriptors.Param) 112 print depths (λ t. refl) (λ t. refl) _ DescribedOk _ reg_param from_reg_param refl zero_type zero_shaped in
+    let from_proc_static = or_laws GREATEST_DEPTH R tree_form ends_type types (described descriptors.ProcStatic) 86 print depths (λ t. refl) (λ t. refl) _ DescribedOk _ param from_param refl zero_type zero_shaped in
+    let from_file_static = or_laws GREATEST_DEPTH R tree_form ends_type types (described descriptors.FileStatic) 83 print depths (λ t. refl) (λ t. refl) _ DescribedOk _ proc_static from_proc_static refl zero_type zero_shaped in
+    let from_global = or_laws GREATEST_DEPTH R tree_form ends_type types (described descriptors.Global) 71 print depths (λ t. refl) (λ t. refl) _ DescribedOk _ file_static from_file_static refl zero_type zero_shaped in
+    let from_global_fun = or_laws GREATEST_DEPTH R tree_form ends_type types (described descriptors.GlobalFun) 70 print depths (λ t. refl) (λ t. refl) _ DescribedOk _ global from_global refl zero_type zero_shaped in
+    let from_static_fun = or_laws GREATEST_DEPTH R tree_form ends_type types (described descriptors.StaticFun) 102 print depths (λ t. refl) (λ t. refl) _ DescribedOk _ global_fun from_global_fun refl zero_type zero_shaped in
+    reshape_laws GREATEST_DEPTH (described_at R) _ ends_type from_static_fun DescribedOk ends_type static_fun.to (λ d e. sorts d.0 d.1 e) (λ c e. e)
 
 -- ---- the whole symbol
 
@@ -320,16 +321,16 @@ SymbolParts p = NameOk p.0 × DescribedOk p.1
 
 -- they make a symbol with a spelling
 symbol_to : (s : Symbol) → Of a_symbol SymbolParts s → ShapedSymbol s
-symbol_to s f = let w : ShapedSymbol (a_symbol f.0) = and_from (name_ok refused f.0.0) _ f.1.0 f.1.1 in subst ShapedSymbol f.2 w
+symbol_to s f = let w : ShapedSymbol (a_symbol f.0) = and_from (is_name refused 58 f.0.0) _ f.1.0 f.1.1 in subst ShapedSymbol f.2 w
 
 -- and each is made so
 symbol_from : (s : Symbol) → ShapedSymbol s → Of a_symbol SymbolParts s
-symbol_from s e = ((s.name, (s.descriptor, s.tree)), and_parts (name_ok refused s.name) (descriptor_ok s.descriptor s.tree && ok s.tree) e, refl)
+symbol_from s e = ((s.name, (s.descriptor, s.tree)), and_parts (is_name refused 58 s.name) (descriptor_ok s.descriptor s.tree && ok s.tree) e, refl)
 
 -- a symbol keeps the laws, its types being at most 100 deep
-pub symbol_laws : Laws 100 symbol_at symbol_form ends_type
+pub symbol_laws : Laws GREATEST_DEPTH symbol_at symbol_form ends_type
 unfolding symbol_at
 symbol_laws =
-    let both = seq_laws 100 (name_at refused 58) _ any (symbol_name_part 100) (described_at R) described_form ends_type described_laws (λ d rest f after. any_after _) (described descriptors.Typedef zero_type) zero_shaped in
-    let all = made_laws 100 (seq (name_at refused 58) (described_at R)) _ ends_type both a_symbol print_symbol depths_symbol (λ p f. refl) (λ p f. refl) in
-    reshape_laws 100 symbol_at _ ends_type all ShapedSymbol ends_type symbol_to symbol_from (λ c e. e)
+    let both = seq_laws GREATEST_DEPTH (name_at refused 58) _ any (symbol_name_part GREATEST_DEPTH) (described_at R) described_form ends_type described_laws (λ d rest f after. any_after _) (described descriptors.Typedef zero_type) zero_shaped in
+    let all = made_laws GREATEST_DEPTH (seq (name_at refused 58) (described_at R)) _ ends_type both a_symbol print_symbol depths_symbol (λ p f. refl) (λ p f. refl) in
+    reshape_laws GREATEST_DEPTH symbol_at _ ends_type all ShapedSymbol ends_type symbol_to symbol_from (λ c e. e)

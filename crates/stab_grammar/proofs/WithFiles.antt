@@ -1,6 +1,6 @@
 -- A type with other files: its shape stays, its files are the changed ones in the same order, and with its own files put back in
 -- order it is the type again.
-use Rattle.std.proofs.Common.{◌≡◌, ℕ, List, [], ◌∷◌, ◌++◌, map, refl, sym, ap, ◌∙◌}
+use Rattle.std.proofs.Common.{◌≡◌, ℕ, true, List, [], ◌∷◌, ◌++◌, map, refl, sym, ap, ◌∙◌}
 use Rattle.std.specs.Prelude.{decimal, flat_map}
 use Rattle.std.proofs.lemmas.List.{map-append}
 use Rattle.readers.specs.Spelling.{ended}
@@ -13,7 +13,8 @@ use Rattle.stab_grammar.specs.declared.tree.TypeTree.TheOpen.{TypeTree-F, Field-
 use Rattle.stab_grammar.specs.declared.tree.TypeTree.TheViews.{roll-TypeTree}
 use Rattle.stab_grammar.specs.declared.tree.TypeTree.TheFolds.{fold-TypeTree, fold-Field, fold-roll-TypeTree, fold-roll-Field, map-TypeTree, map-Field}
 use Rattle.stab_grammar.specs.Spelling.{numeral, same, field_step}
-use Rattle.stab_grammar.specs.Files.{file_in, field_files, all_files, files_step, files_in, files_in_field, num_shape, shape_step, tree_shape, field_shape, num_with, with_step, tree_with, field_with}
+use Rattle.stab_grammar.specs.Files.{file_in, files_in, num_shape, shape_step, tree_shape, field_shape, num_with, with_step, tree_with, field_with}
+use Rattle.stab_grammar.specs.Walks.{all_of_them, field_numbers, numbers_step, numbers_in_field, all_numbers}
 use Rattle.stab_grammar.proofs.Levels as levels
 
 -- ---- one level
@@ -128,54 +129,62 @@ module _ (change : ℕ → ℕ) where
 
   -- ---- the files are the changed ones
 
-  abbrev SameFiles : TypeTree → Type 0
-  SameFiles t = files_in (tree_with change t) ≡ map change (files_in t)
+  abbrev SameNumbers : TypeTree → Type 0
+  SameNumbers t = all_numbers (tree_with change t) ≡ map (num_with change) (all_numbers t)
 
-  abbrev SameFieldFiles : Field → Type 0
-  SameFieldFiles f = files_in_field (field_with change f) ≡ map change (files_in_field f)
+  abbrev SameFieldNumbers : Field → Type 0
+  SameFieldNumbers f = numbers_in_field true (field_with change f) ≡ map (num_with change) (numbers_in_field true f)
 
-  -- the file of a number
-  file_with : (n : Num) → file_in (num_with change n) ≡ map change (file_in n)
-  file_with (Plain n) = refl
-  file_with (Pair f n) = refl
+  joined_numbers : (p q r s : List Num) → p ≡ q → r ≡ s → p ++ r ≡ q ++ s
+  joined_numbers p q r s e f = cc
 
   -- those of the fields
-  fields_files : (fields : List (levels.SoundField SameFiles SameFieldFiles)) → flat_map all_files (map files_in_field (map (field_with change) (map (levels.field_of SameFiles SameFieldFiles) fields))) ≡ map change (flat_map all_files (map files_in_field (map (levels.field_of SameFiles SameFieldFiles) fields)))
-  fields_files [] = refl
-  fields_files (f ∷ fields) = joined _ _ _ _ f.1 (fields_files fields) ∙ sym (map-append change (files_in_field f.0) _)
+  fields_numbers : (fields : List (levels.SoundField SameNumbers SameFieldNumbers)) → flat_map all_of_them (map (numbers_in_field true) (map (field_with change) (map (levels.field_of SameNumbers SameFieldNumbers) fields))) ≡ map (num_with change) (flat_map all_of_them (map (numbers_in_field true) (map (levels.field_of SameNumbers SameFieldNumbers) fields)))
+  fields_numbers [] = refl
+  fields_numbers (f ∷ fields) = joined_numbers _ _ _ _ f.1 (fields_numbers fields) ∙ sym (map-append (num_with change) (numbers_in_field true f.0) _)
 
-  files_texts : TypeTree-F TypeTree Field → TypeTree-F (List ℕ) (List ℕ)
-  files_texts x = map-TypeTree TypeTree Field (List ℕ) (List ℕ) files_in files_in_field x
+  number_texts : TypeTree-F TypeTree Field → TypeTree-F (List Num) (List Num)
+  number_texts x = map-TypeTree TypeTree Field (List Num) (List Num) all_numbers (numbers_in_field true) x
 
-  files_level : (y : TypeTree-F (levels.SoundTree SameFiles SameFieldFiles) (levels.SoundField SameFiles SameFieldFiles)) → files_step (files_texts (with_level change (levels.level SameFiles SameFieldFiles y))) ≡ map change (files_step (files_texts (levels.level SameFiles SameFieldFiles y)))
-  unfolding files_texts
-  files_level (TypeTree-F.Ref n) = file_with n
-  files_level (TypeTree-F.Def n t) = joined _ _ _ _ (file_with n) t.1 ∙ sym (map-append change (file_in n) (files_in t.0))
-  files_level (TypeTree-F.Pointer t) = t.1
-  files_level (TypeTree-F.Function t) = t.1
-  files_level (TypeTree-F.Const t) = t.1
-  files_level (TypeTree-F.Volatile t) = t.1
-  files_level (TypeTree-F.Range t low high) = t.1
-  files_level (TypeTree-F.Array i low high t) = joined _ _ _ _ i.1 t.1 ∙ sym (map-append change (files_in i.0) (files_in t.0))
-  files_level (TypeTree-F.Struct size fields) = fields_files fields
-  files_level (TypeTree-F.Union size fields) = fields_files fields
-  files_level (TypeTree-F.Enum choices) = refl
-  files_level (TypeTree-F.Cross tag name) = refl
-  files_level (TypeTree-F.Sized bits t) = t.1
-  files_level (TypeTree-F.Builtin n) = refl
-  files_level (TypeTree-F.Real a b c) = refl
+  numbers_level : (y : TypeTree-F (levels.SoundTree SameNumbers SameFieldNumbers) (levels.SoundField SameNumbers SameFieldNumbers)) → numbers_step true (number_texts (with_level change (levels.level SameNumbers SameFieldNumbers y))) ≡ map (num_with change) (numbers_step true (number_texts (levels.level SameNumbers SameFieldNumbers y)))
+  unfolding number_texts
+  numbers_level (TypeTree-F.Ref n) = refl
+  numbers_level (TypeTree-F.Def n t) = ap (λ (z : List Num). num_with change n ∷ z) t.1
+  numbers_level (TypeTree-F.Pointer t) = t.1
+  numbers_level (TypeTree-F.Function t) = t.1
+  numbers_level (TypeTree-F.Const t) = t.1
+  numbers_level (TypeTree-F.Volatile t) = t.1
+  numbers_level (TypeTree-F.Range t low high) = t.1
+  numbers_level (TypeTree-F.Array i low high t) = joined_numbers _ _ _ _ i.1 t.1 ∙ sym (map-append (num_with change) (all_numbers i.0) (all_numbers t.0))
+  numbers_level (TypeTree-F.Struct size fields) = fields_numbers fields
+  numbers_level (TypeTree-F.Union size fields) = fields_numbers fields
+  numbers_level (TypeTree-F.Enum choices) = refl
+  numbers_level (TypeTree-F.Cross tag name) = refl
+  numbers_level (TypeTree-F.Sized bits t) = t.1
+  numbers_level (TypeTree-F.Builtin n) = refl
+  numbers_level (TypeTree-F.Real a b c) = refl
 
-  files_tree : (y : TypeTree-F (levels.SoundTree SameFiles SameFieldFiles) (levels.SoundField SameFiles SameFieldFiles)) → SameFiles (roll-TypeTree (levels.level SameFiles SameFieldFiles y))
-  unfolding files_texts
-  files_tree y =
-      let x = levels.level SameFiles SameFieldFiles y in
-      fold-with (List ℕ) (List ℕ) files_step field_files change x ∙ files_level y ∙ ap (map change) (sym (fold-roll-TypeTree (List ℕ) (List ℕ) files_step field_files x))
+  numbers_tree : (y : TypeTree-F (levels.SoundTree SameNumbers SameFieldNumbers) (levels.SoundField SameNumbers SameFieldNumbers)) → SameNumbers (roll-TypeTree (levels.level SameNumbers SameFieldNumbers y))
+  unfolding number_texts
+  numbers_tree y =
+      let x = levels.level SameNumbers SameFieldNumbers y in
+      fold-with (List Num) (List Num) (numbers_step true) field_numbers change x ∙ numbers_level y ∙ ap (map (num_with change)) (sym (fold-roll-TypeTree (List Num) (List Num) (numbers_step true) field_numbers x))
 
-  files_field : (y : Field-F (levels.SoundTree SameFiles SameFieldFiles) (levels.SoundField SameFiles SameFieldFiles)) → SameFieldFiles (roll-Field (levels.field_level SameFiles SameFieldFiles y))
-  files_field y =
-      let f = levels.field_level SameFiles SameFieldFiles y in
-      fold-with-field (List ℕ) (List ℕ) files_step field_files change f ∙ y.tree.1 ∙ ap (map change) (sym (fold-roll-Field (List ℕ) (List ℕ) files_step field_files f))
+  numbers_field : (y : Field-F (levels.SoundTree SameNumbers SameFieldNumbers) (levels.SoundField SameNumbers SameFieldNumbers)) → SameFieldNumbers (roll-Field (levels.field_level SameNumbers SameFieldNumbers y))
+  numbers_field y =
+      let f = levels.field_level SameNumbers SameFieldNumbers y in
+      fold-with-field (List Num) (List Num) (numbers_step true) field_numbers change f ∙ y.tree.1 ∙ ap (map (num_with change)) (sym (fold-roll-Field (List Num) (List Num) (numbers_step true) field_numbers f))
+
+  -- the numbers of a type with other files are the changed ones, in the same order
+  numbers-with : (t : TypeTree) → all_numbers (tree_with change t) ≡ map (num_with change) (all_numbers t)
+  numbers-with = levels.by_levels SameNumbers SameFieldNumbers numbers_tree numbers_field
+
+  -- so of their files
+  each_file : (ns : List Num) → flat_map file_in (map (num_with change) ns) ≡ map change (flat_map file_in ns)
+  each_file [] = refl
+  each_file (Plain n ∷ ns) = each_file ns
+  each_file (Pair f n ∷ ns) = ap (λ (z : List ℕ). change f ∷ z) (each_file ns)
 
   -- the files of a type with other files are the changed ones, in the same order
   pub files-with : (t : TypeTree) → files_in (tree_with change t) ≡ map change (files_in t)
-  files-with = levels.by_levels SameFiles SameFieldFiles files_tree files_field
+  files-with t = ap (flat_map file_in) (numbers-with t) ∙ each_file (all_numbers t)

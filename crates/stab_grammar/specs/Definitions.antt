@@ -6,7 +6,7 @@ use Rattle.stab_grammar.specs.declared.tree.Field.{Field, roll-Field}
 use Rattle.stab_grammar.specs.declared.tree.TypeTree.{TypeTree}
 use Rattle.stab_grammar.specs.declared.tree.TypeTree.TheVariants.{Ref, Def, Pointer, Function, Const, Volatile, Range, Array, Struct, Union, Enum, Cross, Sized, Builtin, Real}
 use Rattle.stab_grammar.specs.declared.tree.TypeTree.TheOpen.{TypeTree-F, Field-F}
-use Rattle.stab_grammar.specs.declared.tree.TypeTree.TheFolds.{fold-TypeTree}
+use Rattle.stab_grammar.specs.declared.tree.TypeTree.TheFolds.{fold-TypeTree, fold-Field}
 use Rattle.stab_grammar.specs.Keys.{key_of}
 
 -- a key and the type that is its definition
@@ -78,6 +78,14 @@ walked = fold-TypeTree Walked WalkedField walk_step walk_field
 -- the definitions in a type, outermost first and from left to right
 abbrev pub definitions_in : TypeTree → List Definition
 definitions_in t = (walked t).1
+
+-- a field with the definitions in it
+abbrev pub walked_field : Field → WalkedField
+walked_field = fold-Field Walked WalkedField walk_step walk_field
+
+-- those in a field
+abbrev pub definitions_in_field : Field → List Definition
+definitions_in_field f = (walked_field f).1
 
 -- ---- the outermost form
 

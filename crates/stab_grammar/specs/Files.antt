@@ -1,7 +1,9 @@
 -- The files of the pairs `(file,number)` in a symbol, the symbol's shape, in which the digits of these files are left out, and the
 -- symbol with other files. Two units that include one header file give it different files, so its symbols have equal shapes there.
 -- After "The stabs debug format", on include files; that each is a fold over the type is this project's own.
-use Rattle.std.specs.Prelude.{◌≡◌, ℕ, List, [], ◌∷◌, ◌++◌, decimal, flat_map, slice_get, unwrap_or}
+use Rattle.std.specs.Prelude.{◌≡◌, ℕ, false, List, [], ◌∷◌, ◌++◌, decimal, flat_map, slice_get, unwrap_or, Result, OnOk}
+use Rattle.st_base.specs.declared.fault.Memory.{Memory}
+use Rattle.stab_grammar.specs.declared.files.PairFiles.{PairFiles}
 use Rattle.stab_grammar.specs.declared.tree.Num.{Num}
 use Rattle.stab_grammar.specs.declared.tree.Num.TheVariants.{Plain, Pair}
 use Rattle.stab_grammar.specs.declared.tree.Field.{Field, roll-Field}
@@ -10,7 +12,9 @@ use Rattle.stab_grammar.specs.declared.tree.TypeTree.TheOpen.{TypeTree-F, Field-
 use Rattle.stab_grammar.specs.declared.tree.TypeTree.TheVariants.{Ref, Def, Pointer, Function, Const, Volatile, Range, Array, Struct, Union, Enum, Cross, Sized, Builtin, Real}
 use Rattle.stab_grammar.specs.declared.tree.TypeTree.TheFolds.{fold-TypeTree, fold-Field}
 use Rattle.stab_grammar.specs.declared.tree.Symbol.{Symbol}
-use Rattle.stab_grammar.specs.Spelling.{step, field_step, letters}
+use Rattle.stab_grammar.specs.declared.limits.TheConstants.{NO_FILE}
+use Rattle.stab_grammar.specs.Printing.{level_text, type_text, field_text, symbol_text}
+use Rattle.stab_grammar.specs.Walks.{all_numbers}
 
 -- ---- the files, in printed order
 
@@ -19,43 +23,17 @@ abbrev pub file_in : Num → List ℕ
 file_in (Plain n) = []
 file_in (Pair f n) = f ∷ []
 
--- those of a field are those of its type
-abbrev pub field_files : Field-F (List ℕ) (List ℕ) → List ℕ
-field_files f = f.tree
-
--- as they are
-abbrev pub all_files : List ℕ → List ℕ
-all_files files = files
-
--- one level of a type, from the files in the types and fields inside
-abbrev pub files_step : TypeTree-F (List ℕ) (List ℕ) → List ℕ
-files_step (TypeTree-F.Ref n) = file_in n
-files_step (TypeTree-F.Def n t) = file_in n ++ t
-files_step (TypeTree-F.Pointer t) = t
-files_step (TypeTree-F.Function t) = t
-files_step (TypeTree-F.Const t) = t
-files_step (TypeTree-F.Volatile t) = t
-files_step (TypeTree-F.Range t low high) = t
-files_step (TypeTree-F.Array i low high t) = i ++ t
-files_step (TypeTree-F.Struct size fields) = flat_map all_files fields
-files_step (TypeTree-F.Union size fields) = flat_map all_files fields
-files_step (TypeTree-F.Enum choices) = []
-files_step (TypeTree-F.Cross tag name) = []
-files_step (TypeTree-F.Sized bits t) = t
-files_step (TypeTree-F.Builtin n) = []
-files_step (TypeTree-F.Real a b c) = []
-
 -- the files of the pairs in a type
 abbrev pub files_in : TypeTree → List ℕ
-files_in = fold-TypeTree (List ℕ) (List ℕ) files_step field_files
-
--- and in a field
-abbrev pub files_in_field : Field → List ℕ
-files_in_field = fold-Field (List ℕ) (List ℕ) files_step field_files
+files_in t = flat_map file_in (all_numbers t)
 
 -- and in a symbol
 abbrev pub files_of : Symbol → List ℕ
 files_of s = files_in s.tree
+
+-- a visit puts the file of the number at the end
+abbrev pub PutsFile : PairFiles → Num → PairFiles → Result (Unit {0}) Memory → Type 0
+PutsFile old num new result = OnOk result (new.files ≡ old.files ++ file_in num)
 
 -- ---- the shape
 
@@ -64,23 +42,21 @@ abbrev pub num_shape : Num → List ℕ
 num_shape (Plain n) = decimal n
 num_shape (Pair f n) = 40 ∷ (44 ∷ (decimal n ++ 41 ∷ []))
 
--- one level of a type; all but the numbers is as it is spelled
+-- one level of a type
 abbrev pub shape_step : TypeTree-F (List ℕ) (List ℕ) → List ℕ
-shape_step (TypeTree-F.Ref n) = num_shape n
-shape_step (TypeTree-F.Def n t) = num_shape n ++ 61 ∷ t
-shape_step other = step other
+shape_step = level_text num_shape false
 
 -- the shape of a type: its spelling without the digits of the files
 abbrev pub tree_shape : TypeTree → List ℕ
-tree_shape = fold-TypeTree (List ℕ) (List ℕ) shape_step field_step
+tree_shape = type_text num_shape false
 
 -- the shape of a field
 abbrev pub field_shape : Field → List ℕ
-field_shape = fold-Field (List ℕ) (List ℕ) shape_step field_step
+field_shape = field_text num_shape false
 
 -- the shape of a symbol
 abbrev pub shape_of : Symbol → List ℕ
-shape_of s = (s.name ++ 58 ∷ []) ++ (letters s.descriptor ++ tree_shape s.tree)
+shape_of = symbol_text num_shape false
 
 -- ---- other files
 
@@ -116,21 +92,17 @@ module _ (change : ℕ → ℕ) where
   abbrev pub field_with : Field → Field
   field_with = fold-Field TypeTree Field with_step roll-Field
 
-  -- a symbol
-  abbrev pub symbol_with : Symbol → Symbol
-  symbol_with s = record { name = s.name; descriptor = s.descriptor; tree = tree_with s.tree }
+  -- a symbol, the file of each pair changed
+  abbrev pub with_files : Symbol → Symbol
+  with_files s = record { name = s.name; descriptor = s.descriptor; tree = tree_with s.tree }
 
--- what stands for a file that a list of files doesn't have: it is greater than every file
-abbrev pub no_file : ℕ
-no_file = 65536
-
--- item `file` of the list
+-- item `file` of the list, or what stands for no file
 abbrev pub new_file : List ℕ → ℕ → ℕ
-new_file files file = unwrap_or (slice_get files file) no_file
+new_file files file = unwrap_or (slice_get files file) NO_FILE
 
 -- the symbol in which each file f is item f of the list
 abbrev pub renumbered : List ℕ → Symbol → Symbol
-renumbered files = symbol_with (new_file files)
+renumbered files = with_files (new_file files)
 
 -- ---- symbols that differ in files alone
 
@@ -140,4 +112,4 @@ file_0 f = 0
 
 -- two symbols differ at most in the files of pairs: with 0 for each file they are one
 abbrev pub DifferInFiles : Symbol → Symbol → Type 0
-DifferInFiles s t = symbol_with file_0 s ≡ symbol_with file_0 t
+DifferInFiles s t = with_files file_0 s ≡ with_files file_0 t

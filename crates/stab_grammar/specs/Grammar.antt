@@ -1,9 +1,10 @@
 -- Reading a symbol or a type from left to right, form by form, in the order of their spellings. The laws in proofs/ show that
 -- exactly the spellings are read, and that reading stops at the first fault. After "The stabs debug format".
-use Rattle.std.specs.Prelude.{ℕ, zero, suc, List, Option, None, Some, Bool, true, false, not, Result, ◌==◌, ◌||◌}
+use Rattle.std.specs.Prelude.{◌-◌, ℕ, zero, suc, List, Option, None, Some, Bool, true, false, not, Result, ◌==◌, ◌||◌}
 use Rattle.readers.specs.declared.stop.Stop.{Stop}
 use Rattle.readers.specs.Readers.{Reader, seq, made, choose, nothing, done, byte_at, closed, optional, unless, many, too_deep, whole_of}
 use Rattle.readers.specs.Words.{is_digit, number_at, name_at, run_at}
+use Rattle.stab_grammar.specs.declared.limits.TheConstants.{GREATEST_DEPTH, GREATEST_FILE, GREATEST_NUMBER, MOST_DIGITS}
 use Rattle.stab_grammar.specs.declared.tree.Num.{Num}
 use Rattle.stab_grammar.specs.declared.tree.Num.TheVariants.{Plain, Pair}
 use Rattle.stab_grammar.specs.declared.tree.Numeral.{Numeral}
@@ -17,14 +18,13 @@ use Rattle.stab_grammar.specs.declared.tree.TypeTree.TheVariants.{Ref, Def, Poin
 use Rattle.stab_grammar.specs.declared.tree.Descriptor.{Descriptor}
 use Rattle.stab_grammar.specs.declared.tree.Descriptor.TheVariants as descriptors
 use Rattle.stab_grammar.specs.declared.tree.Symbol.{Symbol}
-use Rattle.stab_grammar.specs.Shape.{greatest_number, greatest_file, refused, refused_item}
-use Rattle.stab_grammar.specs.StringFaults.{greatest_depth}
+use Rattle.stab_grammar.specs.Shape.{refused, refused_item}
 
 -- ---- the parts of a type that hold no type
 
 -- a type number's number, a size, a bit position
 abbrev pub plain_number : Reader ℕ
-plain_number = number_at greatest_number
+plain_number = number_at GREATEST_NUMBER
 
 -- a file and a number make a type number
 abbrev pub a_pair : ℕ × ℕ → Num
@@ -32,7 +32,7 @@ a_pair p = Pair p.0 p.1
 
 -- `n`, or `(file,number)`
 unfoldable pub num_at : Reader Num
-num_at = choose 40 (made a_pair (seq (closed (number_at greatest_file) 44) (closed plain_number 41))) (made Plain plain_number)
+num_at = choose 40 (made a_pair (seq (closed (number_at GREATEST_FILE) 44) (closed plain_number 41))) (made Plain plain_number)
 
 -- `J` is no bound
 abbrev pub unbounded : Unit {0} → Numeral
@@ -40,7 +40,7 @@ unbounded x = Unbounded
 
 -- 1 to 40 digits
 abbrev pub digits_at : Reader (List ℕ)
-digits_at = run_at is_digit 39
+digits_at = run_at is_digit (MOST_DIGITS - 1)
 
 -- the value of a choice: `-` or not, and digits
 unfoldable pub value_at : Reader Numeral
@@ -239,7 +239,7 @@ a_symbol p = record { name = p.0; descriptor = p.1.0; tree = p.1.1 }
 
 -- `name:`, the descriptor, the type
 unfoldable pub symbol_at : Reader Symbol
-symbol_at = made a_symbol (seq (name_at refused 58) (described_at (type_at greatest_depth)))
+symbol_at = made a_symbol (seq (name_at refused 58) (described_at (type_at GREATEST_DEPTH)))
 
 -- a text that is a symbol
 unfoldable pub whole_symbol : List ℕ → Result Symbol Stop

@@ -2,7 +2,8 @@
 -- "The stabs debug format".
 use Rattle.std.specs.Prelude.{◌≡◌, ℕ, Bool, true, false, not, ◌&&◌, ◌||◌, ◌==◌, nat_le, List, [], ◌∷◌, length}
 use Rattle.readers.specs.Spelling.{all_of}
-use Rattle.readers.specs.Words.{is_digit, not_in_name}
+use Rattle.readers.specs.Words.{is_digit, is_digits, is_name, not_in_name}
+use Rattle.stab_grammar.specs.declared.limits.TheConstants.{GREATEST_FILE, GREATEST_NUMBER, MOST_DIGITS}
 use Rattle.stab_grammar.specs.declared.tree.Num.{Num}
 use Rattle.stab_grammar.specs.declared.tree.Num.TheVariants.{Plain, Pair}
 use Rattle.stab_grammar.specs.declared.tree.Numeral.{Numeral}
@@ -17,20 +18,6 @@ use Rattle.stab_grammar.specs.declared.tree.Descriptor.TheVariants as descriptor
 use Rattle.stab_grammar.specs.declared.tree.Symbol.{Symbol}
 use Rattle.stab_grammar.specs.Spelling.{print_of}
 
--- ---- limits
-
--- the greatest type number, size and bit position
-abbrev pub greatest_number : ℕ
-greatest_number = 2147483647
-
--- the greatest file of a type number
-abbrev pub greatest_file : ℕ
-greatest_file = 65535
-
--- the most digits of a numeral
-abbrev pub most_digits : ℕ
-most_digits = 40
-
 -- ---- names
 
 -- a name of a symbol or of a cross reference holds no zero byte
@@ -41,38 +28,26 @@ refused = not_in_name 0
 abbrev pub refused_item : ℕ → Bool
 refused_item = not_in_name 59
 
--- a name ends before `:`
-abbrev pub name_byte : (ℕ → Bool) → ℕ → Bool
-name_byte test b = not (b == 58) && not (test b)
-
--- each byte of the name may stand in it
-abbrev pub name_ok : (ℕ → Bool) → List ℕ → Bool
-name_ok test name = all_of (name_byte test) name
-
 -- ---- the parts of a type that hold no type
 
 -- the number and the file are within their limits
 abbrev pub num_ok : Num → Bool
-num_ok (Plain n) = nat_le n greatest_number
-num_ok (Pair f n) = nat_le f greatest_file && nat_le n greatest_number
+num_ok (Plain n) = nat_le n GREATEST_NUMBER
+num_ok (Pair f n) = nat_le f GREATEST_FILE && nat_le n GREATEST_NUMBER
 
--- 1 to 40 decimal digits
-abbrev pub digits_ok : List ℕ → Bool
-digits_ok digits = nat_le 1 (length digits) && (all_of is_digit digits && nat_le (length digits) most_digits)
-
--- `J`, or so many digits
+-- `J`, or 1 to 40 decimal digits
 abbrev pub numeral_ok : Numeral → Bool
 numeral_ok Unbounded = true
-numeral_ok (Digits negative digits) = digits_ok digits
+numeral_ok (Digits negative digits) = is_digits MOST_DIGITS digits
 
 -- the value of a choice is not `J`
 abbrev pub value_ok : Numeral → Bool
 value_ok Unbounded = false
-value_ok (Digits negative digits) = digits_ok digits
+value_ok (Digits negative digits) = is_digits MOST_DIGITS digits
 
 -- the name and the value have a spelling
 abbrev pub choice_ok : Choice → Bool
-choice_ok c = name_ok refused_item c.name && value_ok c.number
+choice_ok c = is_name refused_item 58 c.name && value_ok c.number
 
 -- ---- types
 
@@ -83,7 +58,7 @@ begins_digit (b ∷ text) = is_digit b
 
 -- whether a field has a spelling, and whether its name begins with a digit
 abbrev pub field_ok : Field-F Bool (Bool × Bool) → Bool × Bool
-field_ok f = (name_ok refused_item f.name && (f.tree && (nat_le f.bit greatest_number && nat_le f.bits greatest_number)), begins_digit f.name)
+field_ok f = (is_name refused_item 58 f.name && (f.tree && (nat_le f.bit GREATEST_NUMBER && nat_le f.bits GREATEST_NUMBER)), begins_digit f.name)
 
 -- the first of two
 abbrev pub left : Bool × Bool → Bool
@@ -104,13 +79,13 @@ ok_step (TypeTree-F.Const t) = t
 ok_step (TypeTree-F.Volatile t) = t
 ok_step (TypeTree-F.Range t low high) = t && (numeral_ok low && numeral_ok high)
 ok_step (TypeTree-F.Array i low high t) = i && (numeral_ok low && (numeral_ok high && t))
-ok_step (TypeTree-F.Struct size fields) = nat_le size greatest_number && (all_of left fields && first_fine fields)
-ok_step (TypeTree-F.Union size fields) = nat_le size greatest_number && (all_of left fields && first_fine fields)
+ok_step (TypeTree-F.Struct size fields) = nat_le size GREATEST_NUMBER && (all_of left fields && first_fine fields)
+ok_step (TypeTree-F.Union size fields) = nat_le size GREATEST_NUMBER && (all_of left fields && first_fine fields)
 ok_step (TypeTree-F.Enum choices) = all_of choice_ok choices
-ok_step (TypeTree-F.Cross tag name) = name_ok refused name
-ok_step (TypeTree-F.Sized bits t) = nat_le bits greatest_number && t
-ok_step (TypeTree-F.Builtin n) = nat_le n greatest_number
-ok_step (TypeTree-F.Real a b c) = nat_le a greatest_number && (nat_le b greatest_number && nat_le c greatest_number)
+ok_step (TypeTree-F.Cross tag name) = is_name refused 58 name
+ok_step (TypeTree-F.Sized bits t) = nat_le bits GREATEST_NUMBER && t
+ok_step (TypeTree-F.Builtin n) = nat_le n GREATEST_NUMBER
+ok_step (TypeTree-F.Real a b c) = nat_le a GREATEST_NUMBER && (nat_le b GREATEST_NUMBER && nat_le c GREATEST_NUMBER)
 
 -- whether a type has a spelling
 abbrev pub ok : TypeTree → Bool
@@ -138,7 +113,7 @@ descriptor_ok other t = true
 
 -- the name, the descriptor before this type, and the type have a spelling
 abbrev pub symbol_ok : Symbol → Bool
-symbol_ok s = name_ok refused s.name && (descriptor_ok s.descriptor s.tree && ok s.tree)
+symbol_ok s = is_name refused 58 s.name && (descriptor_ok s.descriptor s.tree && ok s.tree)
 
 -- the symbol has a spelling
 abbrev pub ShapedSymbol : Symbol → Type 0

@@ -4,10 +4,12 @@
 use Rattle.std.specs.Prelude.{◌≡◌, ℕ, List}
 use Rattle.st_base.specs.declared.fault.Fault.{Fault}
 use Rattle.st_base.specs.declared.fault.TheConstants.{BYTE, END, DEEP}
+use Rattle.st_base.specs.Faults.{fault_at}
 use Rattle.readers.specs.declared.fault.TextFault.{TextFault}
 use Rattle.readers.specs.declared.fault.TextFault.TheVariants.{Byte, End, Deep}
 use Rattle.readers.specs.Spelling.{Form, Within}
 use Rattle.readers.specs.Faults.{HasFault, IsFirstFault}
+use Rattle.stab_grammar.specs.declared.limits.TheConstants.{GREATEST_DEPTH}
 use Rattle.stab_grammar.specs.declared.tree.Symbol.{Symbol}
 use Rattle.stab_grammar.specs.Spelling.{print_symbol}
 use Rattle.stab_grammar.specs.Depth.{depths_symbol}
@@ -15,14 +17,10 @@ use Rattle.stab_grammar.specs.Shape.{ShapedSymbol}
 
 -- ---- the symbol that a string spells
 
--- the most types inside one another
-abbrev pub greatest_depth : ℕ
-greatest_depth = 100
-
 -- the text spells the symbol, whose types are at most 100 deep
 pub record IsSpelling (s : Symbol) (text : List ℕ) : Type 0 where
   pub shaped : ShapedSymbol s
-  pub depth : Within greatest_depth (depths_symbol s)
+  pub depth : Within GREATEST_DEPTH (depths_symbol s)
   pub spelled : text ≡ print_symbol s
 
 -- ---- the faults of a string
@@ -33,19 +31,19 @@ symbol_form = record { print = print_symbol; depths = depths_symbol; shaped = Sh
 
 -- the string has the fault
 abbrev pub HasStringFault : List ℕ → TextFault → Type 0
-HasStringFault = HasFault greatest_depth symbol_form
+HasStringFault = HasFault GREATEST_DEPTH symbol_form
 
 -- it is the one with the least place
 abbrev pub IsFirstStringFault : List ℕ → TextFault → Type 0
-IsFirstStringFault = IsFirstFault greatest_depth symbol_form
+IsFirstStringFault = IsFirstFault GREATEST_DEPTH symbol_form
 
 -- ---- the fault that is told
 
--- number 40, 41 or 42, the place in the string, and 0 within
+-- number 40, 41 or 42, and the place in the string
 abbrev pub fault_of : TextFault → Fault
-fault_of (Byte p) = record { number = BYTE; place = p; within = 0 }
-fault_of (End p) = record { number = END; place = p; within = 0 }
-fault_of (Deep p) = record { number = DEEP; place = p; within = 0 }
+fault_of (Byte place) = fault_at BYTE place
+fault_of (End place) = fault_at END place
+fault_of (Deep place) = fault_at DEEP place
 
 -- the first fault of the string is told so
 pub record IsStringFault (text : List ℕ) (fault : Fault) : Type 0 where

@@ -1,46 +1,21 @@
--- The numbers on the surface of a type: those met from left to right without going into the definition behind a number; and
--- the type as it is shown in a listing, where each of them is `#` and the place of its key. Both are this project's own.
-use Rattle.std.specs.Prelude.{ℕ, Bool, ◌&&◌, ◌==◌, List, [], ◌∷◌, ◌++◌, decimal, unwrap_or, position, flat_map}
+-- The keys of the numbers on the surface of a type: of those met from left to right without going into the definition behind a
+-- number; and the type as it is shown in a listing, where each of them is `#` and the place of its key. Both are this project's own.
+use Rattle.std.specs.Prelude.{◌≡◌, ℕ, Bool, true, ◌&&◌, ◌==◌, List, [], ◌∷◌, ◌++◌, decimal, unwrap_or, position, map}
+use Rattle.std.specs.declared.cmp.Ordering.{Ordering}
+use Rattle.std.specs.Ordering.{ordering_then, nat_cmp}
+use Rattle.std.specs.BTreeMap.{BTreeMap, get}
 use Rattle.stab_grammar.specs.declared.tree.Num.{Num}
 use Rattle.stab_grammar.specs.declared.tree.Key.{Key}
-use Rattle.stab_grammar.specs.declared.tree.Field.{Field}
 use Rattle.stab_grammar.specs.declared.tree.TypeTree.{TypeTree}
-use Rattle.stab_grammar.specs.declared.tree.TypeTree.TheOpen.{TypeTree-F, Field-F}
-use Rattle.stab_grammar.specs.declared.tree.TypeTree.TheFolds.{fold-TypeTree, fold-Field}
-use Rattle.stab_grammar.specs.Spelling.{step, field_step}
 use Rattle.stab_grammar.specs.Keys.{key_of}
+use Rattle.stab_grammar.specs.Walks.{surface_numbers}
+use Rattle.stab_grammar.specs.Printing.{type_text}
 
 -- ---- the keys on the surface
 
--- those of a field are those of its type
-abbrev pub field_surface : Field-F (List Key) (List Key) → List Key
-field_surface f = f.tree
-
--- as they are
-abbrev pub all_keys : List Key → List Key
-all_keys keys = keys
-
--- one level of a type, from the keys of the types and fields inside
-abbrev pub surface_step : TypeTree-F (List Key) (List Key) → List Key
-surface_step (TypeTree-F.Ref n) = key_of n ∷ []
-surface_step (TypeTree-F.Def n t) = key_of n ∷ []
-surface_step (TypeTree-F.Pointer t) = t
-surface_step (TypeTree-F.Function t) = t
-surface_step (TypeTree-F.Const t) = t
-surface_step (TypeTree-F.Volatile t) = t
-surface_step (TypeTree-F.Range t low high) = t
-surface_step (TypeTree-F.Array i low high t) = i ++ t
-surface_step (TypeTree-F.Struct size fields) = flat_map all_keys fields
-surface_step (TypeTree-F.Union size fields) = flat_map all_keys fields
-surface_step (TypeTree-F.Enum choices) = []
-surface_step (TypeTree-F.Cross tag name) = []
-surface_step (TypeTree-F.Sized bits t) = t
-surface_step (TypeTree-F.Builtin n) = []
-surface_step (TypeTree-F.Real a b c) = []
-
 -- the keys of the numbers on the surface of a type, from left to right
 abbrev pub surface_of : TypeTree → List Key
-surface_of = fold-TypeTree (List Key) (List Key) surface_step field_surface
+surface_of t = map key_of (surface_numbers t)
 
 -- ---- a type with its places
 
@@ -52,16 +27,21 @@ same_key k l = k.file == l.file && k.number == l.number
 abbrev pub place_text : List Key → Num → List ℕ
 place_text keys n = 35 ∷ decimal (unwrap_or (position (same_key (key_of n)) keys) 0)
 
--- one level of a type, where a number, with the definition behind it if it has one, is its place; all else is as it is spelled
-abbrev pub placed_step : List Key → TypeTree-F (List ℕ) (List ℕ) → List ℕ
-placed_step keys (TypeTree-F.Ref n) = place_text keys n
-placed_step keys (TypeTree-F.Def n t) = place_text keys n
-placed_step keys other = step other
-
--- the text of a type in a listing of these keys
+-- the text of a type in a listing of these keys: a number, with the definition behind it if it has one, is its place; all else is as
+-- it is spelled
 abbrev pub placed : List Key → TypeTree → List ℕ
-placed keys = fold-TypeTree (List ℕ) (List ℕ) (placed_step keys) field_step
+placed keys = type_text (place_text keys) true
 
--- the text of a field there
-abbrev pub placed_field : List Key → Field → List ℕ
-placed_field keys = fold-Field (List ℕ) (List ℕ) (placed_step keys) field_step
+-- ---- places in a map
+
+-- the order of keys: by file, then by number
+abbrev pub key_order : Key → Key → Ordering
+key_order k l = ordering_then (nat_cmp k.file l.file) (nat_cmp k.number l.number)
+
+-- the map has the place of each key of the list, and no others
+abbrev pub ArePlaces : List Key → BTreeMap Key ℕ → Type 0
+ArePlaces keys places = (key : Key) → get key_order places key ≡ position (same_key key) keys
+
+-- `#` and the place that the map has for the key
+abbrev pub mapped_text : BTreeMap Key ℕ → Num → List ℕ
+mapped_text places n = 35 ∷ decimal (unwrap_or (get key_order places (key_of n)) 0)

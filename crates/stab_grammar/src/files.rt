@@ -1,76 +1,36 @@
-ghost use Rattle.std.specs.Prelude.{◌≡◌, ◌++◌, ◌∷◌, ◌↔◌, [], List, ℕ, decimal, map, flat_map, IfOk, OnOk};
-ghost use Rattle.readers.specs.Spelling.{ended};
+ghost use Rattle.std.specs.Prelude.{◌≡◌, ◌↔◌, ℕ, map, IfOk};
 ghost use Rattle.stab_grammar.specs.declared.tree.Symbol.{Symbol};
-ghost use Rattle.stab_grammar.specs.Spelling.{same};
 ghost use Rattle.stab_grammar.specs.Shape.{ShapedSymbol};
 ghost use Rattle.stab_grammar.specs.Files as spec;
-ghost use Rattle.stab_grammar.specs.Files.{files_of, shape_of, renumbered, DifferInFiles, new_file};
+ghost use Rattle.stab_grammar.specs.Files.{files_of, shape_of, renumbered, with_files, file_0, DifferInFiles, new_file};
 
-use crate::printing::{
-    letters_of, print_type, put_byte, put_bytes, put_name_and, put_number, put_number_and,
-    put_numeral_and,
-};
+use crate::limits::NO_FILE;
+use crate::printing::{NumberWriter, put_bytes, put_number, put_number_and, put_symbol};
 use crate::tree::{Choice, Field, Num, Numeral, Symbol, TypeTree};
+use crate::walk::{NumberVisitor, visit_numbers};
 use st_base::{Boxed as Box, List, Memory, Text};
 use std::alloc::Global;
 
-/// Stands for a file that a list of files does not have; it is greater than every file.
-const NO_FILE: u32 = 65536;
-
 // ---- the files, in printed order
 
-fn put_file(num: &Num, out: &mut List<u32>) -> Result<(), Memory>
-    ensures { OnOk result (out.new ≡ out.old ++ spec.file_in num.now) }
-{
-    match num {
-        Num::Plain(_) => Ok(()),
-        Num::Pair(file, _) => out.push(*file),
-    }
+// The files of the pairs that were visited.
+#[derive(Drop)]
+struct PairFiles {
+    files: List<u32>,
 }
 
-#[cycle(files)]
-fn put_field_files(field: &Field, out: &mut List<u32>) -> Result<(), Memory>
-    ensures { OnOk result (out.new ≡ out.old ++ spec.files_in_field field.now) }
-{
-    put_files(&field.tree, out)
-}
+impl NumberVisitor for PairFiles {
+    ghost use Rattle.stab_grammar.specs.Files.{PutsFile};
 
-#[cycle(files)]
-fn put_fields_files(fields: &[Field], out: &mut List<u32>) -> Result<(), Memory>
-    ensures { OnOk result (out.new ≡ out.old ++ flat_map spec.all_files (map spec.files_in_field fields.now)) }
-{
-    for field in fields {
-        put_field_files(field, out)?;
-    }
-    Ok(())
-}
+    type Stop = Memory;
 
-#[cycle(files)]
-fn put_files(tree: &TypeTree, out: &mut List<u32>) -> Result<(), Memory>
-    ensures { OnOk result (out.new ≡ out.old ++ spec.files_in tree.now) }
-{
-    match tree {
-        TypeTree::Ref(num) => put_file(num, out),
-        TypeTree::Def(num, body) => {
-            put_file(num, out)?;
-            put_files(body.get(), out)
+    ghost visits = { PutsFile };
+
+    fn visit(&mut self, num: Num) -> Result<(), Memory> {
+        match num {
+            Num::Plain(_) => Ok(()),
+            Num::Pair(file, _) => self.files.push(file),
         }
-        TypeTree::Pointer(inner) => put_files(inner.get(), out),
-        TypeTree::Function(inner) => put_files(inner.get(), out),
-        TypeTree::Const(inner) => put_files(inner.get(), out),
-        TypeTree::Volatile(inner) => put_files(inner.get(), out),
-        TypeTree::Range(inner, _, _) => put_files(inner.get(), out),
-        TypeTree::Array(index, _, _, item) => {
-            put_files(index.get(), out)?;
-            put_files(item.get(), out)
-        }
-        TypeTree::Struct(_, fields) => put_fields_files(fields.items(), out),
-        TypeTree::Union(_, fields) => put_fields_files(fields.items(), out),
-        TypeTree::Sized(_, inner) => put_files(inner.get(), out),
-        TypeTree::Enum(_) => Ok(()),
-        TypeTree::Cross(_, _) => Ok(()),
-        TypeTree::Builtin(_) => Ok(()),
-        TypeTree::Real(_, _, _) => Ok(()),
     }
 }
 
@@ -78,112 +38,40 @@ fn put_files(tree: &TypeTree, out: &mut List<u32>) -> Result<(), Memory>
 pub fn numbers(alloc: Global, symbol: &Symbol) -> Result<List<u32>, Memory>
     ensures { IfOk result (λ files. files ≡ files_of symbol.now) }
 {
-    let mut files = List::new(alloc);
-    put_files(&symbol.tree, &mut files)?;
+    let mut visited = PairFiles {
+        files: List::new(alloc),
+    };
+    visit_numbers(&symbol.tree, &mut visited)?;
+    let PairFiles { files } = visited;
     Ok(files)
 }
 
 // ---- the shape
 
-// The number, without the digits of its file.
-fn put_num_shape(num: &Num, out: &mut Text) -> Result<(), Memory>
-    ensures { OnOk result (out.new ≡ out.old ++ spec.num_shape num.now) }
-{
-    match num {
-        Num::Plain(number) => put_number(*number, out),
-        Num::Pair(_, number) => {
-            put_bytes(b"(,", out)?;
-            put_number_and(*number, b')', out)
+// Numbers without the digits of their files, `n` or `(,number)`.
+#[derive(Drop)]
+struct WithoutFiles;
+
+impl NumberWriter for WithoutFiles {
+    ghost use Rattle.std.specs.Prelude.{false};
+    ghost use Rattle.stab_grammar.specs.Files.{num_shape};
+
+    ghost number = { λ _. num_shape };
+
+    ghost hides = { λ _. false };
+
+    fn put(&self, num: &Num, out: &mut Text) -> Result<(), Memory> {
+        match num {
+            Num::Plain(number) => put_number(*number, out),
+            Num::Pair(_, number) => {
+                put_bytes(b"(,", out)?;
+                put_number_and(*number, b')', out)
+            }
         }
     }
-}
 
-#[cycle(shapes)]
-fn put_field_shape(field: &Field, out: &mut Text) -> Result<(), Memory>
-    ensures { OnOk result (out.new ≡ out.old ++ spec.field_shape field.now) }
-{
-    put_name_and(&field.name, b':', out)?;
-    put_shape_and(&field.tree, b',', out)?;
-    put_number_and(field.bit, b',', out)?;
-    put_number_and(field.bits, b';', out)
-}
-
-#[cycle(shapes)]
-fn put_field_shapes(fields: &[Field], out: &mut Text) -> Result<(), Memory>
-    ensures { OnOk result (out.new ≡ out.old ++ ended same (59 ∷ []) (map spec.field_shape fields.now)) }
-{
-    for field in fields {
-        put_field_shape(field, out)?;
-    }
-    put_byte(b';', out)
-}
-
-// A structure or union.
-#[cycle(shapes)]
-fn put_members_shape(letter: u8, size: u32, fields: &[Field], out: &mut Text) -> Result<(), Memory>
-    ensures { OnOk result (out.new ≡ out.old ++ letter ∷ (decimal size ++ ended same (59 ∷ []) (map spec.field_shape fields.now))) }
-{
-    put_byte(letter, out)?;
-    put_number(size, out)?;
-    put_field_shapes(fields, out)
-}
-
-// The shape of a type behind a letter.
-#[cycle(shapes)]
-fn put_shape_behind(letter: u8, tree: &TypeTree, out: &mut Text) -> Result<(), Memory>
-    ensures { OnOk result (out.new ≡ out.old ++ letter ∷ spec.tree_shape tree.now) }
-{
-    put_byte(letter, out)?;
-    put_shape(tree, out)
-}
-
-#[cycle(shapes)]
-fn put_shape_and(tree: &TypeTree, end: u8, out: &mut Text) -> Result<(), Memory>
-    ensures { OnOk result (out.new ≡ out.old ++ (spec.tree_shape tree.now ++ end ∷ [])) }
-{
-    put_shape(tree, out)?;
-    put_byte(end, out)
-}
-
-// A type that holds no type is its spelling.
-#[cycle(shapes)]
-fn put_shape(tree: &TypeTree, out: &mut Text) -> Result<(), Memory>
-    ensures { OnOk result (out.new ≡ out.old ++ spec.tree_shape tree.now) }
-{
-    match tree {
-        TypeTree::Ref(num) => put_num_shape(num, out),
-        TypeTree::Def(num, inner) => {
-            put_num_shape(num, out)?;
-            put_shape_behind(b'=', inner.get(), out)
-        }
-        TypeTree::Pointer(inner) => put_shape_behind(b'*', inner.get(), out),
-        TypeTree::Function(inner) => put_shape_behind(b'f', inner.get(), out),
-        TypeTree::Const(inner) => put_shape_behind(b'k', inner.get(), out),
-        TypeTree::Volatile(inner) => put_shape_behind(b'B', inner.get(), out),
-        TypeTree::Range(inner, low, high) => {
-            put_byte(b'r', out)?;
-            put_shape_and(inner.get(), b';', out)?;
-            put_numeral_and(low, b';', out)?;
-            put_numeral_and(high, b';', out)
-        }
-        TypeTree::Array(index, low, high, item) => {
-            put_bytes(b"ar", out)?;
-            put_shape_and(index.get(), b';', out)?;
-            put_numeral_and(low, b';', out)?;
-            put_numeral_and(high, b';', out)?;
-            put_shape(item.get(), out)
-        }
-        TypeTree::Struct(size, fields) => put_members_shape(b's', *size, fields.items(), out),
-        TypeTree::Union(size, fields) => put_members_shape(b'u', *size, fields.items(), out),
-        TypeTree::Sized(bits, inner) => {
-            put_bytes(b"@s", out)?;
-            put_number_and(*bits, b';', out)?;
-            put_shape(inner.get(), out)
-        }
-        TypeTree::Enum(_) => print_type(tree, out),
-        TypeTree::Cross(_, _) => print_type(tree, out),
-        TypeTree::Builtin(_) => print_type(tree, out),
-        TypeTree::Real(_, _, _) => print_type(tree, out),
+    fn hides_definitions(&self) -> bool {
+        false
     }
 }
 
@@ -192,9 +80,7 @@ pub fn shape(alloc: Global, symbol: &Symbol) -> Result<Text, Memory>
     ensures { IfOk result (λ t. t ≡ shape_of symbol.now) }
 {
     let mut out = Text::new(alloc);
-    put_name_and(&symbol.name, b':', &mut out)?;
-    put_bytes(letters_of(symbol.descriptor), &mut out)?;
-    put_shape(&symbol.tree, &mut out)?;
+    put_symbol(symbol, &WithoutFiles, &mut out)?;
     Ok(out)
 }
 
@@ -339,11 +225,14 @@ pub fn renumber(alloc: Global, symbol: &Symbol, files: &List<u32>) -> Result<Sym
 
 // ---- laws
 
-/// Two shaped symbols have equal shapes exactly where they differ at most in the files of pairs; of one shape with the same
-/// files they are one symbol. Other files keep the shape, and stand in the order of the old ones.
+/// What the shape and the files tell of a symbol. Two shaped symbols have equal shapes exactly where they differ at most in the files
+/// of pairs. Any two symbols that differ at most there and have the same files are one. Other files, whatever function gives
+/// them, keep the shape and all but the files, and stand in the order of the old ones.
 pub fn shape_laws()
     ensures only_files { (s t : Symbol) → ShapedSymbol s → ShapedSymbol t → (shape_of s ≡ shape_of t) ↔ DifferInFiles s t }
+    ensures known { (s t : Symbol) → with_files file_0 s ≡ with_files file_0 t → files_of s ≡ files_of t → s ≡ t }
     ensures determined { (s t : Symbol) → ShapedSymbol s → ShapedSymbol t → shape_of s ≡ shape_of t → files_of s ≡ files_of t → s ≡ t }
-    ensures shape_kept { (files : List ℕ) (s : Symbol) → shape_of (renumbered files s) ≡ shape_of s }
-    ensures files_new { (files : List ℕ) (s : Symbol) → files_of (renumbered files s) ≡ map (new_file files) (files_of s) }
+    ensures again { (change : ℕ → ℕ) (s : Symbol) → with_files file_0 (with_files change s) ≡ with_files file_0 s }
+    ensures shape_kept { (change : ℕ → ℕ) (s : Symbol) → shape_of (with_files change s) ≡ shape_of s }
+    ensures files_new { (change : ℕ → ℕ) (s : Symbol) → files_of (with_files change s) ≡ map change (files_of s) }
 {}

@@ -2,25 +2,18 @@ ghost use Rattle.std.specs.Prelude.{◌≡◌, ◌≤◌, Ok, Err};
 ghost use Rattle.readers.specs.Readers as readers;
 ghost use Rattle.readers.specs.Readers.{Gives};
 ghost use Rattle.readers.specs.Words as words;
+ghost use Rattle.stab_grammar.specs.declared.limits.TheConstants.{GREATEST_DEPTH};
 ghost use Rattle.stab_grammar.specs.Grammar as spec;
 ghost use Rattle.stab_grammar.specs.Shape as shape;
 
 use crate::descriptors::descriptors;
+use crate::limits::{GREATEST_DEPTH, GREATEST_FILE, GREATEST_NUMBER, MOST_DIGITS};
 use crate::tree::{Choice, Descriptor, Field, Num, Numeral, Symbol, Tag, TypeTree};
 use readers::{
     Refusal, Stop, bad, byte_at, digits_at, is_digit, name_at, number_and, number_at, text_of,
 };
 use st_base::{Boxed as Box, List, Text};
 use std::alloc::Global;
-
-/// The greatest type number, size and bit position.
-const GREATEST_NUMBER: u32 = 2147483647;
-
-/// The greatest file of a type number.
-const GREATEST_FILE: u32 = 65535;
-
-/// How many types may stand inside one another, the outermost included.
-const GREATEST_DEPTH: usize = 100;
 
 // ---- the parts of a type that hold no type
 
@@ -51,7 +44,7 @@ fn signed_digits_at(
 ) -> Result<(Numeral, &[u8]), Refusal>
     ensures { Gives (λ x. (x.0, x.1.now)) result (readers.made (Numeral.Digits negative) spec.digits_at bytes.now) }
 {
-    let (digits, rest) = digits_at(39, bytes)?;
+    let (digits, rest) = digits_at(MOST_DIGITS - 1, bytes)?;
     Ok((Numeral::Digits(negative, text_of(alloc, digits)?), rest))
 }
 
@@ -482,7 +475,7 @@ fn described(
     descriptor: Descriptor,
     bytes: &[u8],
 ) -> Result<((Descriptor, TypeTree), &[u8]), Refusal>
-    ensures { Gives (λ x. (x.0, x.1.now)) result (readers.made (spec.described descriptor) (spec.type_at 100) bytes.now) }
+    ensures { Gives (λ x. (x.0, x.1.now)) result (readers.made (spec.described descriptor) (spec.type_at GREATEST_DEPTH) bytes.now) }
 {
     let (tree, rest) = type_at(alloc, GREATEST_DEPTH, bytes)?;
     Ok(((descriptor, tree), rest))
@@ -490,7 +483,7 @@ fn described(
 
 /// A tag, behind `T`: `t` or not, and the type.
 fn tagged(alloc: Global, bytes: &[u8]) -> Result<((Descriptor, TypeTree), &[u8]), Refusal>
-    ensures { Gives (λ x. (x.0, x.1.now)) result (spec.tagged_at (spec.type_at 100) bytes.now) }
+    ensures { Gives (λ x. (x.0, x.1.now)) result (spec.tagged_at (spec.type_at GREATEST_DEPTH) bytes.now) }
 {
     match bytes {
         [b't', rest @ ..] => described(alloc, Descriptor::TagTypedef, rest),
@@ -500,7 +493,7 @@ fn tagged(alloc: Global, bytes: &[u8]) -> Result<((Descriptor, TypeTree), &[u8])
 
 /// A symbol without a descriptor: its type begins with a digit, `(` or `-`.
 fn stack(alloc: Global, bytes: &[u8]) -> Result<((Descriptor, TypeTree), &[u8]), Refusal>
-    ensures { Gives (λ x. (x.0, x.1.now)) result (spec.stack_at (spec.type_at 100) bytes.now) }
+    ensures { Gives (λ x. (x.0, x.1.now)) result (spec.stack_at (spec.type_at GREATEST_DEPTH) bytes.now) }
 {
     match bytes {
         [] => Err(Refusal::At(Stop::End)),
@@ -516,7 +509,7 @@ fn stack(alloc: Global, bytes: &[u8]) -> Result<((Descriptor, TypeTree), &[u8]),
 /// The descriptor and the type, behind the colon of a symbol.
 #[tactic(auto, unfolding(crate::specs::Grammar::described_at))]
 fn described_at(alloc: Global, bytes: &[u8]) -> Result<((Descriptor, TypeTree), &[u8]), Refusal>
-    ensures { Gives (λ x. (x.0, x.1.now)) result (spec.described_at (spec.type_at 100) bytes.now) }
+    ensures { Gives (λ x. (x.0, x.1.now)) result (spec.described_at (spec.type_at GREATEST_DEPTH) bytes.now) }
 {
     descriptors!(reading of alloc, bytes)
 }

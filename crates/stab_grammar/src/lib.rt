@@ -5,36 +5,23 @@
 //! read is spelled so. After "The stabs debug format", the C parts.
 #![tactic(auto)]
 
+mod definitions;
 mod descriptors;
-#[cfg(test)]
-mod file_tests;
 mod files;
 mod grammar;
 mod keys;
-#[cfg(test)]
-mod nested_tests;
-#[cfg(test)]
-mod parse_tests;
+mod limits;
 mod placed;
 mod printing;
 mod read;
-#[cfg(test)]
-mod test_rows;
-#[cfg(test)]
-mod tests;
 mod tree;
-#[cfg(test)]
-mod wrong_fields;
-#[cfg(test)]
-mod wrong_limits;
-#[cfg(test)]
-mod wrong_symbols;
-#[cfg(test)]
-mod wrong_types;
+mod walk;
 
+pub use definitions::{DefinitionVisitor, StandsForTree, visit_definitions};
 pub use files::{numbers, renumber, shape, shape_laws};
 pub use keys::key_of;
-pub use placed::print_placed;
+pub use placed::{print_placed, print_placed_by};
 pub use printing::{letters_of, print, print_type};
 pub use read::{one_place, one_symbol, parse};
 pub use tree::{Choice, Descriptor, Field, Key, Num, Numeral, Symbol, Tag, TypeTree};
+pub use walk::{NumberVisitor, visit_numbers, visit_surface};

@@ -1,13 +1,28 @@
-ghost use Rattle.std.specs.Prelude.{◌≡◌, ◌++◌, OnOk, OnErr, All, Contains, position, unwrap_or};
+ghost use Rattle.std.specs.Prelude.{◌≡◌, ◌++◌, ◌∷◌, List, true, decimal, OnOk, OnErr, All, Contains, position, unwrap_or};
 ghost use Rattle.std.specs.List.{IsDistinct};
+ghost use Rattle.stab_grammar.specs.declared.tree.Key.{Key as KeyValue};
 ghost use Rattle.stab_grammar.specs.Printing.{Grows};
-ghost use Rattle.stab_grammar.specs.Surface.{same_key, place_text, surface_of, placed};
+ghost use Rattle.stab_grammar.specs.Surface.{same_key, place_text, surface_of, placed, ArePlaces, mapped_text};
+ghost use Rattle.stab_grammar.specs.Printing.{type_text};
 
 use crate::keys::key_of;
-use crate::printing::{append_type, put_byte, put_bytes};
+use crate::printing::{NumberWriter, append_type, put_byte, put_bytes};
 use crate::tree::{Key, Num, TypeTree};
 use itoa::Buffer;
 use st_base::{List, Memory, Text};
+use std::collections::BTreeMap;
+
+// Appends `#` and a place.
+fn put_place(place: usize, out: &mut Text) -> Result<(), Memory>
+    ensures ok { OnOk result (out.new ≡ out.old ++ 35 ∷ decimal place) }
+    ensures grows { Grows out.old out.new }
+{
+    let mut buffer = Buffer::new();
+    put_byte(b'#', out)?;
+    put_bytes(buffer.format(place).as_bytes(), out)
+}
+
+// ---- places in a list
 
 // The first place of a key, counted from 0.
 fn found(keys: &[Key], key: &Key) -> Option<usize>
@@ -23,14 +38,27 @@ fn place_of(keys: &List<Key>, key: Key) -> usize
     found(keys.items(), &key).unwrap_or(0)
 }
 
-// Appends `#` and the place of a number's key.
-pub(crate) fn put_place(keys: &List<Key>, num: &Num, out: &mut Text) -> Result<(), Memory>
-    ensures ok { OnOk result (out.new ≡ out.old ++ place_text keys.now num.now) }
-    ensures grows { Grows out.old out.new }
-{
-    let mut buffer = Buffer::new();
-    put_byte(b'#', out)?;
-    put_bytes(buffer.format(place_of(keys, key_of(num))).as_bytes(), out)
+// Numbers as places in a list of keys.
+#[derive(Drop)]
+struct Listed<'a> {
+    keys: &'a List<Key>,
+}
+
+impl<'a> NumberWriter for Listed<'a> {
+    ghost use Rattle.std.specs.Prelude.{true};
+    ghost use Rattle.stab_grammar.specs.Surface.{place_text};
+
+    ghost number = { λ listed. place_text listed.keys.now };
+
+    ghost hides = { λ _. true };
+
+    fn put(&self, num: &Num, out: &mut Text) -> Result<(), Memory> {
+        put_place(place_of(self.keys, key_of(num)), out)
+    }
+
+    fn hides_definitions(&self) -> bool {
+        true
+    }
 }
 
 /// Appends the text of a type in a listing of these keys: each number on its surface is `#` and the place of its key,
@@ -41,5 +69,56 @@ pub fn print_placed(tree: &TypeTree, keys: &List<Key>, out: &mut Text) -> Result
     ensures ok { OnOk result (out.new ≡ out.old ++ placed keys.now tree.now) }
     ensures err { OnErr result (out.new ≡ out.old) }
 {
-    append_type(tree, Some(keys), out)
+    append_type(tree, &Listed { keys }, out)
+}
+
+// ---- places in a map
+
+// Numbers as the places that a map has for their keys.
+#[derive(Drop)]
+struct Mapped<'a> {
+    places: &'a BTreeMap<Key, usize>,
+}
+
+impl<'a> NumberWriter for Mapped<'a> {
+    ghost use Rattle.std.specs.Prelude.{true};
+    ghost use Rattle.stab_grammar.specs.Surface.{mapped_text};
+
+    ghost number = { λ mapped. mapped_text mapped.places.now };
+
+    ghost hides = { λ _. true };
+
+    fn put(&self, num: &Num, out: &mut Text) -> Result<(), Memory> {
+        put_place(self.places.get(&key_of(num)).copied().unwrap_or(0), out)
+    }
+
+    fn hides_definitions(&self) -> bool {
+        true
+    }
+}
+
+// Appends the text of a type, with the places that the map has.
+fn append_mapped(
+    tree: &TypeTree,
+    places: &BTreeMap<Key, usize>,
+    out: &mut Text,
+) -> Result<(), Memory>
+    ensures ok { OnOk result (out.new ≡ out.old ++ type_text (mapped_text places.now) true tree.now) }
+    ensures err { OnErr result (out.new ≡ out.old) }
+{
+    append_type(tree, &Mapped { places }, out)
+}
+
+/// Appends the text of a type as `print_placed` does in a listing of the keys whose places the map has: each list of keys of which
+/// these are the places gives this text. A look-up takes the time of one in the map, however long the listing is. Out of memory,
+/// `out` stays as it was.
+pub fn print_placed_by(
+    tree: &TypeTree,
+    places: &BTreeMap<Key, usize>,
+    out: &mut Text,
+) -> Result<(), Memory>
+    ensures ok { (keys : List KeyValue) → ArePlaces keys places.now → OnOk result (out.new ≡ out.old ++ placed keys tree.now) }
+    ensures err { OnErr result (out.new ≡ out.old) }
+{
+    append_mapped(tree, places, out)
 }

@@ -1,13 +1,12 @@
-ghost use Rattle.std.specs.Prelude.{◌≡◌, [], ◌∷◌, ◌++◌, ◌≤◌, length, take, decimal, OnOk, OnErr};
-ghost use Rattle.std.specs.Option.{option_copied};
+ghost use Rattle.std.specs.Prelude.{◌≡◌, ℕ, Bool, List, [], ◌∷◌, ◌++◌, ◌≤◌, length, take, decimal, OnOk, OnErr};
+ghost use Rattle.stab_grammar.specs.declared.tree.Num.{Num as NumValue};
 ghost use Rattle.stab_grammar.specs.Spelling as spec;
-ghost use Rattle.stab_grammar.specs.Printing.{Grows, number_text, defined_text, type_text, field_text, fields_text, choices_text};
+ghost use Rattle.stab_grammar.specs.Printing.{Grows, defined_text, type_text, field_text, fields_text, symbol_text, choices_text};
 
 use crate::descriptors::descriptors;
-use crate::placed::put_place;
-use crate::tree::{Choice, Descriptor, Field, Key, Num, Numeral, Symbol, Tag, TypeTree};
+use crate::tree::{Choice, Descriptor, Field, Num, Numeral, Symbol, Tag, TypeTree};
 use itoa::Buffer;
-use st_base::{List, Memory, Text};
+use st_base::{Memory, Text};
 
 // ---- bytes, names and numbers
 
@@ -49,30 +48,55 @@ pub(crate) fn put_number_and(number: u32, end: u8, out: &mut Text) -> Result<(),
     put_byte(end, out)
 }
 
-fn put_num(num: &Num, out: &mut Text) -> Result<(), Memory>
-    ensures ok { OnOk result (out.new ≡ out.old ++ spec.num num.now) }
-    ensures grows { Grows out.old out.new }
-{
-    match num {
-        Num::Plain(number) => put_number(*number, out),
-        Num::Pair(file, number) => {
-            put_byte(b'(', out)?;
-            put_number_and(*file, b',', out)?;
-            put_number_and(*number, b')', out)
+// ---- ways to write numbers
+
+/// A way to write the numbers of a type.
+pub(crate) trait NumberWriter {
+    // the text of a number
+    ghost number: { Self → NumValue → List ℕ };
+
+    // whether the definition behind a number is left out
+    ghost hides: { Self → Bool };
+
+    /// Appends a number.
+    fn put(&self, num: &Num, out: &mut Text) -> Result<(), Memory>
+        ensures ok { OnOk result (out.new ≡ out.old ++ number self.now num.now) }
+        ensures grows { Grows out.old out.new };
+
+    /// Whether the definition behind a number is left out.
+    fn hides_definitions(&self) -> bool
+        ensures { result ≡ hides self.now };
+}
+
+/// Numbers as they are spelled, `n` or `(file,number)`.
+#[derive(Drop)]
+pub(crate) struct Spelled;
+
+impl NumberWriter for Spelled {
+    ghost use Rattle.std.specs.Prelude.{false};
+    ghost use Rattle.stab_grammar.specs.Spelling.{num as spelled};
+
+    ghost number = { λ _. spelled };
+
+    ghost hides = { λ _. false };
+
+    fn put(&self, num: &Num, out: &mut Text) -> Result<(), Memory> {
+        match num {
+            Num::Plain(number) => put_number(*number, out),
+            Num::Pair(file, number) => {
+                put_byte(b'(', out)?;
+                put_number_and(*file, b',', out)?;
+                put_number_and(*number, b')', out)
+            }
         }
+    }
+
+    fn hides_definitions(&self) -> bool {
+        false
     }
 }
 
-// The number, or the place of its key if there are keys.
-fn put_number_of(num: &Num, keys: Option<&List<Key>>, out: &mut Text) -> Result<(), Memory>
-    ensures ok { OnOk result (out.new ≡ out.old ++ number_text (option_copied keys.entry) num.now) }
-    ensures grows { Grows out.old out.new }
-{
-    match keys {
-        None => put_num(num, out),
-        Some(listed) => put_place(listed, num, out),
-    }
-}
+// ---- numerals
 
 pub(crate) fn put_numeral_and(numeral: &Numeral, end: u8, out: &mut Text) -> Result<(), Memory>
     ensures ok { OnOk result (out.new ≡ out.old ++ (spec.numeral numeral.now ++ end ∷ [])) }
@@ -114,120 +138,119 @@ fn put_choices(choices: &[Choice], out: &mut Text) -> Result<(), Memory>
 }
 
 #[cycle(print)]
-fn put_field(field: &Field, keys: Option<&List<Key>>, out: &mut Text) -> Result<(), Memory>
-    ensures ok { OnOk result (out.new ≡ out.old ++ field_text (option_copied keys.entry) field.now) }
+fn put_field<W: NumberWriter>(field: &Field, writer: &W, out: &mut Text) -> Result<(), Memory>
+    ensures ok { OnOk result (out.new ≡ out.old ++ field_text (W.number writer.now) (W.hides writer.now) field.now) }
     ensures grows { Grows out.old out.new }
 {
     put_name_and(&field.name, b':', out)?;
-    put_type_and(&field.tree, keys, b',', out)?;
+    put_type_and(&field.tree, writer, b',', out)?;
     put_number_and(field.bit, b',', out)?;
     put_number_and(field.bits, b';', out)
 }
 
 #[cycle(print)]
-fn put_fields(fields: &[Field], keys: Option<&List<Key>>, out: &mut Text) -> Result<(), Memory>
-    ensures ok { OnOk result (out.new ≡ out.old ++ fields_text (option_copied keys.entry) fields.now) }
+fn put_fields<W: NumberWriter>(fields: &[Field], writer: &W, out: &mut Text) -> Result<(), Memory>
+    ensures ok { OnOk result (out.new ≡ out.old ++ fields_text (W.number writer.now) (W.hides writer.now) fields.now) }
     ensures grows { Grows out.old out.new }
 {
     for field in fields {
-        put_field(field, keys, out)?;
+        put_field(field, writer, out)?;
     }
     put_byte(b';', out)
 }
 
 // A structure or union.
 #[cycle(print)]
-fn put_members(
+fn put_members<W: NumberWriter>(
     letter: u8,
     size: u32,
     fields: &[Field],
-    keys: Option<&List<Key>>,
+    writer: &W,
     out: &mut Text,
 ) -> Result<(), Memory>
-    ensures ok { OnOk result (out.new ≡ out.old ++ letter ∷ (decimal size ++ fields_text (option_copied keys.entry) fields.now)) }
+    ensures ok { OnOk result (out.new ≡ out.old ++ letter ∷ (decimal size ++ fields_text (W.number writer.now) (W.hides writer.now) fields.now)) }
     ensures grows { Grows out.old out.new }
 {
     put_byte(letter, out)?;
     put_number(size, out)?;
-    put_fields(fields, keys, out)
+    put_fields(fields, writer, out)
 }
 
+// A number and its definition, if that is not left out.
 #[cycle(print)]
-fn put_definition(
+fn put_definition<W: NumberWriter>(
     num: &Num,
-    tree: &TypeTree,
-    keys: Option<&List<Key>>,
+    body: &TypeTree,
+    writer: &W,
     out: &mut Text,
 ) -> Result<(), Memory>
-    ensures ok { OnOk result (out.new ≡ out.old ++ defined_text (option_copied keys.entry) num.now (type_text (option_copied keys.entry) tree.now)) }
+    ensures ok { OnOk result (out.new ≡ out.old ++ defined_text (W.hides writer.now) (W.number writer.now num.now) (type_text (W.number writer.now) (W.hides writer.now) body.now)) }
     ensures grows { Grows out.old out.new }
 {
-    match keys {
-        None => {
-            put_num(num, out)?;
-            put_behind(b'=', tree, keys, out)
-        }
-        Some(keys) => put_place(keys, num, out),
+    writer.put(num, out)?;
+    if writer.hides_definitions() {
+        return Ok(());
     }
+    put_behind(b'=', body, writer, out)
 }
 
 // A type behind a letter.
 #[cycle(print)]
-fn put_behind(
+fn put_behind<W: NumberWriter>(
     letter: u8,
     tree: &TypeTree,
-    keys: Option<&List<Key>>,
+    writer: &W,
     out: &mut Text,
 ) -> Result<(), Memory>
-    ensures ok { OnOk result (out.new ≡ out.old ++ letter ∷ type_text (option_copied keys.entry) tree.now) }
+    ensures ok { OnOk result (out.new ≡ out.old ++ letter ∷ type_text (W.number writer.now) (W.hides writer.now) tree.now) }
     ensures grows { Grows out.old out.new }
 {
     put_byte(letter, out)?;
-    put_type(tree, keys, out)
+    put_type(tree, writer, out)
 }
 
 #[cycle(print)]
-fn put_type_and(
+fn put_type_and<W: NumberWriter>(
     tree: &TypeTree,
-    keys: Option<&List<Key>>,
+    writer: &W,
     end: u8,
     out: &mut Text,
 ) -> Result<(), Memory>
-    ensures ok { OnOk result (out.new ≡ out.old ++ (type_text (option_copied keys.entry) tree.now ++ end ∷ [])) }
+    ensures ok { OnOk result (out.new ≡ out.old ++ (type_text (W.number writer.now) (W.hides writer.now) tree.now ++ end ∷ [])) }
     ensures grows { Grows out.old out.new }
 {
-    put_type(tree, keys, out)?;
+    put_type(tree, writer, out)?;
     put_byte(end, out)
 }
 
-// Numbers stand as they are spelled, or as the places of their keys if there are keys.
+// A type, its numbers written so.
 #[cycle(print)]
-fn put_type(tree: &TypeTree, keys: Option<&List<Key>>, out: &mut Text) -> Result<(), Memory>
-    ensures ok { OnOk result (out.new ≡ out.old ++ type_text (option_copied keys.entry) tree.now) }
+fn put_type<W: NumberWriter>(tree: &TypeTree, writer: &W, out: &mut Text) -> Result<(), Memory>
+    ensures ok { OnOk result (out.new ≡ out.old ++ type_text (W.number writer.now) (W.hides writer.now) tree.now) }
     ensures grows { Grows out.old out.new }
 {
     match tree {
-        TypeTree::Ref(num) => put_number_of(num, keys, out),
-        TypeTree::Def(num, inner) => put_definition(num, inner.get(), keys, out),
-        TypeTree::Pointer(inner) => put_behind(b'*', inner.get(), keys, out),
-        TypeTree::Function(inner) => put_behind(b'f', inner.get(), keys, out),
-        TypeTree::Const(inner) => put_behind(b'k', inner.get(), keys, out),
-        TypeTree::Volatile(inner) => put_behind(b'B', inner.get(), keys, out),
+        TypeTree::Ref(num) => writer.put(num, out),
+        TypeTree::Def(num, inner) => put_definition(num, inner.get(), writer, out),
+        TypeTree::Pointer(inner) => put_behind(b'*', inner.get(), writer, out),
+        TypeTree::Function(inner) => put_behind(b'f', inner.get(), writer, out),
+        TypeTree::Const(inner) => put_behind(b'k', inner.get(), writer, out),
+        TypeTree::Volatile(inner) => put_behind(b'B', inner.get(), writer, out),
         TypeTree::Range(inner, low, high) => {
             put_byte(b'r', out)?;
-            put_type_and(inner.get(), keys, b';', out)?;
+            put_type_and(inner.get(), writer, b';', out)?;
             put_numeral_and(low, b';', out)?;
             put_numeral_and(high, b';', out)
         }
         TypeTree::Array(index, low, high, item) => {
             put_bytes(b"ar", out)?;
-            put_type_and(index.get(), keys, b';', out)?;
+            put_type_and(index.get(), writer, b';', out)?;
             put_numeral_and(low, b';', out)?;
             put_numeral_and(high, b';', out)?;
-            put_type(item.get(), keys, out)
+            put_type(item.get(), writer, out)
         }
-        TypeTree::Struct(size, fields) => put_members(b's', *size, fields.items(), keys, out),
-        TypeTree::Union(size, fields) => put_members(b'u', *size, fields.items(), keys, out),
+        TypeTree::Struct(size, fields) => put_members(b's', *size, fields.items(), writer, out),
+        TypeTree::Union(size, fields) => put_members(b'u', *size, fields.items(), writer, out),
         TypeTree::Enum(choices) => {
             put_byte(b'e', out)?;
             put_choices(choices.items(), out)
@@ -240,7 +263,7 @@ fn put_type(tree: &TypeTree, keys: Option<&List<Key>>, out: &mut Text) -> Result
         TypeTree::Sized(bits, inner) => {
             put_bytes(b"@s", out)?;
             put_number_and(*bits, b';', out)?;
-            put_type(inner.get(), keys, out)
+            put_type(inner.get(), writer, out)
         }
         TypeTree::Builtin(number) => {
             put_byte(b'-', out)?;
@@ -271,16 +294,16 @@ fn undone(before: usize, printed: Result<(), Memory>, out: &mut Text) -> Result<
 }
 
 // Appends the text of a type, or changes nothing.
-pub(crate) fn append_type(
+pub(crate) fn append_type<W: NumberWriter>(
     tree: &TypeTree,
-    keys: Option<&List<Key>>,
+    writer: &W,
     out: &mut Text,
 ) -> Result<(), Memory>
-    ensures ok { OnOk result (out.new ≡ out.old ++ type_text (option_copied keys.entry) tree.now) }
+    ensures ok { OnOk result (out.new ≡ out.old ++ type_text (W.number writer.now) (W.hides writer.now) tree.now) }
     ensures err { OnErr result (out.new ≡ out.old) }
 {
     let before = out.bytes().len();
-    let printed = put_type(tree, keys, out);
+    let printed = put_type(tree, writer, out);
     undone(before, printed, out)
 }
 
@@ -289,7 +312,7 @@ pub fn print_type(tree: &TypeTree, out: &mut Text) -> Result<(), Memory>
     ensures ok { OnOk result (out.new ≡ out.old ++ spec.print_of tree.now) }
     ensures err { OnErr result (out.new ≡ out.old) }
 {
-    append_type(tree, None, out)
+    append_type(tree, &Spelled, out)
 }
 
 // ---- symbols
@@ -301,13 +324,17 @@ pub fn letters_of(descriptor: Descriptor) -> &'static [u8]
     descriptors!(letters of descriptor)
 }
 
-fn put_symbol(symbol: &Symbol, out: &mut Text) -> Result<(), Memory>
-    ensures ok { OnOk result (out.new ≡ out.old ++ spec.print_symbol symbol.now) }
+pub(crate) fn put_symbol<W: NumberWriter>(
+    symbol: &Symbol,
+    writer: &W,
+    out: &mut Text,
+) -> Result<(), Memory>
+    ensures ok { OnOk result (out.new ≡ out.old ++ symbol_text (W.number writer.now) (W.hides writer.now) symbol.now) }
     ensures grows { Grows out.old out.new }
 {
     put_name_and(&symbol.name, b':', out)?;
     put_bytes(letters_of(symbol.descriptor), out)?;
-    put_type(&symbol.tree, None, out)
+    put_type(&symbol.tree, writer, out)
 }
 
 /// Appends the spelling of a symbol. Out of memory, `out` stays as it was.
@@ -316,6 +343,6 @@ pub fn print(symbol: &Symbol, out: &mut Text) -> Result<(), Memory>
     ensures err { OnErr result (out.new ≡ out.old) }
 {
     let before = out.bytes().len();
-    let printed = put_symbol(symbol, out);
+    let printed = put_symbol(symbol, &Spelled, out);
     undone(before, printed, out)
 }

@@ -39,11 +39,7 @@ fn fault_of(fault: TextFault) -> Fault
         TextFault::End(place) => (END, place),
         TextFault::Deep(place) => (DEEP, place),
     };
-    Fault {
-        number,
-        place: place as u64,
-        within: 0,
-    }
+    Fault::at(number, place as u64)
 }
 
 /// The symbol that a stab string spells: `name:`, a descriptor, a type.
