@@ -1,8 +1,7 @@
+use crate::answers::{put_bytes_word, put_fault, put_word, put_word16, put_word32};
 use crate::changes::changed;
-use crate::table::{
-    Calls, Odd, all_hold, number16, number32, order, put_bytes_word, put_fault, put_word,
-    put_word16, put_word32,
-};
+use crate::table::{Calls, Odd, all_hold};
+use crate::words::{last, number16, number32, order};
 use aout_layout::{Header, header_fits, read_header, write_header};
 use st_base::{Order, Text};
 use std::alloc::Global;
@@ -86,7 +85,7 @@ fn header_in(row: &[u8]) -> Result<Header, Odd> {
     let (symbols, row) = number32(row)?;
     let (entry, row) = number32(row)?;
     let (text_relocs, row) = number32(row)?;
-    let (data_relocs, _) = number32(row)?;
+    let data_relocs = last(number32(row)?)?;
     Ok(Header {
         order,
         machine,

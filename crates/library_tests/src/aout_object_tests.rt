@@ -2,14 +2,15 @@ ghost use Rattle.std.specs.Prelude.{◌≡◌, [], All, IfOk, OnOk};
 ghost use Rattle.strtab.specs.StringTable.{HasNoZero};
 ghost use Rattle.aout_object.specs.Making.{HasWholeName};
 
+use crate::answers::{
+    put_bytes_word, put_fault, put_number, put_refused, put_word, put_word8, put_word16, put_word32,
+};
 use crate::changes::changed;
 use crate::nlist_codec_tests::put_each_entry;
 use crate::reloc_tests::put_reloc;
 use crate::strtab_tests::zero_in;
-use crate::table::{
-    Calls, Odd, all_hold, bytes, bytes_of, number32, order, put_bytes_word, put_fault, put_number,
-    put_refused, put_word, put_word8, put_word16, put_word32, word,
-};
+use crate::table::{Calls, Odd, all_hold};
+use crate::words::{bytes, bytes_of, last, number32, order, word};
 use aout_object::{Object, Parts, decode, encode};
 use nlist_codec::Named;
 use reloc::Reloc;
@@ -80,20 +81,22 @@ fn object_in(alloc: Global, row: &[u8]) -> Result<Object, Odd> {
 
 // ---- what decoding answers
 
+fn put_again(alloc: Global, object: &Object, file: &[u8], out: &mut Text) -> Result<(), Odd> {
+    let again = encode(alloc, object)?;
+    let is_same = again.bytes() == file;
+    let answer = if is_same {
+        b"same".as_slice()
+    } else {
+        b"other"
+    };
+    Ok(put_word(answer, out)?)
+}
+
 /// `same` where the file is decoded, and encoded again as it stood.
 fn put_decoded(alloc: Global, file: &[u8], out: &mut Text) -> Result<(), Odd> {
     match decode(alloc, file) {
         Err(refused) => put_refused(&refused, out),
-        Ok(object) => {
-            let again = encode(alloc, &object)?;
-            let is_same = again.bytes() == file;
-            let answer = if is_same {
-                b"same".as_slice()
-            } else {
-                b"other"
-            };
-            Ok(put_word(answer, out)?)
-        }
+        Ok(object) => put_again(alloc, &object, file, out),
     }
 }
 
@@ -118,13 +121,13 @@ fn decode_both(alloc: Global, changes: &[u8], out: &mut Text) -> Result<(), Odd>
 
 /// A file by itself.
 fn decode_bytes(alloc: Global, row: &[u8], out: &mut Text) -> Result<(), Odd> {
-    let (file, _) = bytes(alloc, row)?;
+    let file = last(bytes(alloc, row)?)?;
     put_decoded(alloc, file.bytes(), out)
 }
 
 /// The file with a byte more.
 fn decode_longer(alloc: Global, row: &[u8], out: &mut Text) -> Result<(), Odd> {
-    let (order, _) = order(row)?;
+    let order = last(order(row)?)?;
     let mut file = file_in(alloc, order, b"")?;
     file.push(0)?;
     put_decoded(alloc, file.bytes(), out)
@@ -140,7 +143,7 @@ fn is_truncated(alloc: Global, front: &[u8]) -> bool {
 
 /// How many fronts of the file are told to be truncated at their ends.
 fn decode_fronts(alloc: Global, row: &[u8], out: &mut Text) -> Result<(), Odd> {
-    let (order, _) = order(row)?;
+    let order = last(order(row)?)?;
     let file = file_in(alloc, order, b"")?;
     let all = file.bytes();
     let mut count = 0u64;
@@ -348,7 +351,7 @@ fn put_fault_of_making(alloc: Global, parts: Parts, out: &mut Text) -> Result<()
 /// An entry word, and how many zero bytes of text.
 fn make_long(alloc: Global, row: &[u8], out: &mut Text) -> Result<(), Odd> {
     let (entry, row) = number32(row)?;
-    let (size, _) = number32(row)?;
+    let size = last(number32(row)?)?;
     let text = zeros(alloc, size as usize)?;
     put_fault_of_making(alloc, parts_with(alloc, Order::Big, entry, text), out)
 }

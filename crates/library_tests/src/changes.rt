@@ -1,4 +1,5 @@
-use crate::table::{Odd, bytes_of, number8, number32};
+use crate::table::Odd;
+use crate::words::{bytes_of, last, number8, number32};
 use st_base::{Order, Text, set_first_word};
 use std::alloc::Global;
 
@@ -16,8 +17,8 @@ fn parted(text: &[u8], by: u8) -> Option<(&[u8], &[u8])> {
 }
 
 fn set_word(order: Order, file: &mut [u8], place: &[u8], word: &[u8]) -> Result<(), Odd> {
-    let (at, _) = number8(place)?;
-    let (word, _) = number32(word)?;
+    let at = last(number8(place)?)?;
+    let word = last(number32(word)?)?;
     let at = usize::from(at);
     if file.len() < at + 4 {
         return Err(Odd::Row);
@@ -27,7 +28,7 @@ fn set_word(order: Order, file: &mut [u8], place: &[u8], word: &[u8]) -> Result<
 }
 
 fn set_byte(order: Order, file: &mut [u8], place: &[u8], choice: &[u8]) -> Result<(), Odd> {
-    let (at, _) = number8(place)?;
+    let at = last(number8(place)?)?;
     let at = usize::from(at);
     let Some((little, big)) = parted(choice, b'/') else {
         return Err(Odd::Row);

@@ -6,6 +6,8 @@
 #![tactic(auto)]
 
 #[cfg(test)]
+mod answers;
+#[cfg(test)]
 mod aout_layout_tests;
 #[cfg(test)]
 mod aout_object_tests;
@@ -37,3 +39,7 @@ mod strtab_tests;
 mod table;
 #[cfg(test)]
 mod trees;
+#[cfg(test)]
+mod walks_tests;
+#[cfg(test)]
+mod words;

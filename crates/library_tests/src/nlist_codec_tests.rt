@@ -1,7 +1,6 @@
-use crate::table::{
-    Calls, Odd, all_hold, bytes, number8, number16, number32, order, put_bytes_word, put_number,
-    put_word8, put_word16, put_word32,
-};
+use crate::answers::{put_bytes_word, put_number, put_word8, put_word16, put_word32};
+use crate::table::{Calls, Odd, all_hold};
+use crate::words::{bytes, last, number8, number16, number32, order};
 use nlist_codec::{Entry, read_entries, read_entry, write_entry};
 use st_base::{Order, Text};
 use std::alloc::Global;
@@ -32,7 +31,7 @@ fn entry_of(order: Order, record: &[u8; 12]) -> Entry {
 
 fn read(alloc: Global, row: &[u8], out: &mut Text) -> Result<(), Odd> {
     let (order, row) = order(row)?;
-    let (spelled, _) = bytes(alloc, row)?;
+    let spelled = last(bytes(alloc, row)?)?;
     match spelled.bytes().split_first_chunk::<12>() {
         Some((record, _)) => put_entry(&entry_of(order, record), out),
         None => Err(Odd::Row),
@@ -44,7 +43,7 @@ fn entry_in(row: &[u8]) -> Result<Entry, Odd> {
     let (kind, row) = number8(row)?;
     let (other, row) = number8(row)?;
     let (desc, row) = number16(row)?;
-    let (value, _) = number32(row)?;
+    let value = last(number32(row)?)?;
     Ok(Entry {
         strx,
         kind,
@@ -66,7 +65,7 @@ fn write(row: &[u8], out: &mut Text) -> Result<(), Odd> {
 
 fn read_all(alloc: Global, row: &[u8], out: &mut Text) -> Result<(), Odd> {
     let (order, row) = order(row)?;
-    let (spelled, _) = bytes(alloc, row)?;
+    let spelled = last(bytes(alloc, row)?)?;
     if spelled.bytes().len() % 12 != 0 {
         return Err(Odd::Row);
     }

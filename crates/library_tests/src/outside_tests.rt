@@ -1,4 +1,6 @@
-use crate::table::{Calls, Odd, all_hold, bytes, number, put_bytes_word, put_word};
+use crate::answers::{put_bytes_word, put_word};
+use crate::table::{Calls, Odd, all_hold};
+use crate::words::{bytes, last, number};
 use outside::{
     DiskFiles, Files, Loaded, MemoryFiles, MemorySink, Put, Sink, Stored, StreamSink, SureFiles,
     SureSink,
@@ -20,7 +22,7 @@ struct FileRows<F: Files + Drop> {
 /// A name, and the most bytes.
 fn load<F: Files>(files: &mut F, alloc: Global, row: &[u8], out: &mut Text) -> Result<(), Odd> {
     let (name, row) = bytes(alloc, row)?;
-    let (most, _) = number(row)?;
+    let most = last(number(row)?)?;
     match files.load(alloc, name, most) {
         Loaded::Bytes(text) => Ok(put_bytes_word(text.bytes(), out)?),
         Loaded::Absent => Ok(put_word(b"absent", out)?),
@@ -33,7 +35,7 @@ fn load<F: Files>(files: &mut F, alloc: Global, row: &[u8], out: &mut Text) -> R
 /// A name, and its bytes.
 fn store<F: Files>(files: &mut F, alloc: Global, row: &[u8], out: &mut Text) -> Result<(), Odd> {
     let (name, row) = bytes(alloc, row)?;
-    let (content, _) = bytes(alloc, row)?;
+    let content = last(bytes(alloc, row)?)?;
     match files.store(alloc, &name, &content) {
         Stored::Done => Ok(put_word(b"done", out)?),
         Stored::Failed => Ok(put_word(b"failed", out)?),
@@ -180,7 +182,7 @@ struct SinkRows<S: Sink + Drop> {
 }
 
 fn put<S: Sink>(sink: &mut S, alloc: Global, row: &[u8], out: &mut Text) -> Result<(), Odd> {
-    let (piece, _) = bytes(alloc, row)?;
+    let piece = last(bytes(alloc, row)?)?;
     match sink.put(piece.bytes()) {
         Put::Done => Ok(put_word(b"done", out)?),
         Put::Failed => Ok(put_word(b"failed", out)?),

@@ -1,6 +1,6 @@
-use crate::table::{
-    Calls, Odd, all_hold, bytes, number8, number32, put_bytes_word, put_number, put_word, word,
-};
+use crate::answers::{put_bytes_word, put_number, put_word};
+use crate::table::{Calls, Odd, all_hold};
+use crate::words::{bytes, last, number8, number32, word};
 use readers::{
     Refusal, Stop, TextFault, Unread, bad, byte_at, digits_at, is_digit, name_at, number_and,
     number_at, text_of, told, whole_number,
@@ -66,7 +66,7 @@ fn limited(alloc: Global, row: &[u8], call: &[u8], out: &mut Text) -> Result<(),
         b"whole_number" => put_whole(whole_number(limit, text.bytes()), out),
         b"number_at" => put_numbered(number_at(limit, text.bytes()), out),
         _ => {
-            let (end, _) = number8(row)?;
+            let end = last(number8(row)?)?;
             put_numbered(number_and(limit, end, text.bytes()), out)
         }
     }
@@ -76,19 +76,19 @@ fn limited(alloc: Global, row: &[u8], call: &[u8], out: &mut Text) -> Result<(),
 fn name(alloc: Global, row: &[u8], out: &mut Text) -> Result<(), Odd> {
     let (end, row) = number8(row)?;
     let (barred, row) = number8(row)?;
-    let (text, _) = bytes(alloc, row)?;
+    let text = last(bytes(alloc, row)?)?;
     put_parted(name_at(end, barred, text.bytes()), out)
 }
 
 fn digits(alloc: Global, row: &[u8], out: &mut Text) -> Result<(), Odd> {
     let (more, row) = number8(row)?;
-    let (text, _) = bytes(alloc, row)?;
+    let text = last(bytes(alloc, row)?)?;
     put_parted(digits_at(usize::from(more), text.bytes()), out)
 }
 
 fn byte(alloc: Global, row: &[u8], out: &mut Text) -> Result<(), Odd> {
     let (wanted, row) = number8(row)?;
-    let (text, _) = bytes(alloc, row)?;
+    let text = last(bytes(alloc, row)?)?;
     match byte_at(wanted, text.bytes()) {
         Ok(((), rest)) => Ok(put_bytes_word(rest, out)?),
         Err(refusal) => put_refusal(refusal, out),
@@ -96,7 +96,7 @@ fn byte(alloc: Global, row: &[u8], out: &mut Text) -> Result<(), Odd> {
 }
 
 fn digit(row: &[u8], out: &mut Text) -> Result<(), Odd> {
-    let (b, _) = number8(row)?;
+    let b = last(number8(row)?)?;
     let answer = if is_digit(b) {
         b"yes".as_slice()
     } else {
@@ -106,7 +106,7 @@ fn digit(row: &[u8], out: &mut Text) -> Result<(), Odd> {
 }
 
 fn text(alloc: Global, row: &[u8], out: &mut Text) -> Result<(), Odd> {
-    let (bytes, _) = bytes(alloc, row)?;
+    let bytes = last(bytes(alloc, row)?)?;
     match text_of(alloc, bytes.bytes()) {
         Ok(text) => Ok(put_bytes_word(text.bytes(), out)?),
         Err(refusal) => put_refusal(refusal, out),
@@ -114,7 +114,7 @@ fn text(alloc: Global, row: &[u8], out: &mut Text) -> Result<(), Odd> {
 }
 
 fn wrong(alloc: Global, row: &[u8], out: &mut Text) -> Result<(), Odd> {
-    let (text, _) = bytes(alloc, row)?;
+    let text = last(bytes(alloc, row)?)?;
     put_refusal(bad(text.bytes()), out)
 }
 
@@ -131,7 +131,7 @@ fn put_unread(unread: Unread, out: &mut Text) -> Result<(), Odd> {
 fn place(row: &[u8], out: &mut Text) -> Result<(), Odd> {
     let (all, row) = number8(row)?;
     let (why, row) = word(row);
-    let (left, _) = number8(row)?;
+    let left = last(number8(row)?)?;
     let (all, left) = (usize::from(all), usize::from(left));
     if all < left {
         return Err(Odd::Row);
@@ -172,6 +172,7 @@ impl Calls for Readers {
 }
 
 const ROWS: &[u8] = b"
+# the greatest number, and a text
 whole_number 4294967295 '0' -> 0
 whole_number 4294967295 '4294967295' -> 4294967295
 whole_number 9 '9' -> 9
@@ -205,6 +206,7 @@ number_at 20 '-' -> bad 1
 number_at 20 '/' -> bad 1
 number_at 20 ':' -> bad 1
 
+# a number and a comma
 number_and 20 '7,x' 0x2c -> 7 'x'
 number_and 20 '7,' 0x2c -> 7 .
 number_and 20 '7;x' 0x2c -> bad 2
@@ -235,19 +237,23 @@ digits_at 0 '07' -> '0' '7'
 digits_at 39 . -> end
 digits_at 39 'x7' -> bad 2
 
+# a semicolon, and what stands behind it
 byte_at 0x3b ';x' -> 'x'
 byte_at 0x3b ';' -> .
 byte_at 0x3b ',x' -> bad 2
 byte_at 0x3b . -> end
 
+# both sides of the digits
 is_digit 0x2f -> no
 is_digit 0x30 -> yes
 is_digit 0x39 -> yes
 is_digit 0x3a -> no
 
+# the same bytes
 text_of . -> .
 text_of 'int'00ff -> 'int'00ff
 
+# how many bytes are left
 bad 'abc' -> bad 3
 bad . -> bad 0
 

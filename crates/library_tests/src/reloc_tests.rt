@@ -1,7 +1,6 @@
-use crate::table::{
-    Calls, Odd, all_hold, bytes, number8, number32, order, put_bytes_word, put_fault, put_number,
-    put_word, word,
-};
+use crate::answers::{put_bytes_word, put_fault, put_number, put_word};
+use crate::table::{Calls, Odd, all_hold};
+use crate::words::{bytes, last, number8, number32, order, word};
 use reloc::{Reloc, apply, read_reloc, write_reloc};
 use st_base::{Fault, Order, Text};
 use std::alloc::Global;
@@ -22,7 +21,7 @@ pub fn put_reloc(reloc: &Reloc, out: &mut Text) -> Result<(), Odd> {
 
 fn read(alloc: Global, row: &[u8], out: &mut Text) -> Result<(), Odd> {
     let (order, row) = order(row)?;
-    let (spelled, _) = bytes(alloc, row)?;
+    let spelled = last(bytes(alloc, row)?)?;
     let Some((record, _)) = spelled.bytes().split_first_chunk::<8>() else {
         return Err(Odd::Row);
     };
@@ -36,17 +35,29 @@ fn read(alloc: Global, row: &[u8], out: &mut Text) -> Result<(), Odd> {
     }
 }
 
+/// Whether `pcrel`, and whether `external` stands among the flags.
+fn flags_in(flags: &[u8]) -> Result<(bool, bool), Odd> {
+    match flags {
+        b"" => Ok((false, false)),
+        b"pcrel" => Ok((true, false)),
+        b"external" => Ok((false, true)),
+        b"pcrel external" => Ok((true, true)),
+        _ => Err(Odd::Row),
+    }
+}
+
 /// The address, the symbol, the length, and which of the two flags are set.
 fn reloc_in(row: &[u8]) -> Result<Reloc, Odd> {
     let (address, row) = number32(row)?;
     let (symbol, row) = number32(row)?;
-    let (length, flags) = number8(row)?;
+    let (length, row) = number8(row)?;
+    let (pcrel, external) = flags_in(row)?;
     Ok(Reloc {
         address,
         symbol,
-        pcrel: flags.starts_with(b"pcrel"),
+        pcrel,
         length,
-        external: flags.ends_with(b"external"),
+        external,
     })
 }
 

@@ -1,7 +1,6 @@
-use crate::table::{
-    Calls, Odd, all_hold, bytes, number, number8, number16, number32, order, put_bytes_word,
-    put_fault, put_number, put_word, put_word32, word,
-};
+use crate::answers::{put_bytes_word, put_fault, put_number, put_word, put_word32};
+use crate::table::{Calls, Odd, all_hold};
+use crate::words::{bytes, last, number, number8, number16, number32, order, word};
 use st_base::{Boxed, Fault, Layout, List, Order, Steps, Text, first_word, set_first_word, show};
 use std::alloc::Global;
 use std::marker::Brand;
@@ -9,7 +8,7 @@ use std::marker::Brand;
 // ---- the shown form
 
 fn shown_form(alloc: Global, row: &[u8], out: &mut Text) -> Result<(), Odd> {
-    let (text, _) = bytes(alloc, row)?;
+    let text = last(bytes(alloc, row)?)?;
     let mut shown = Text::new(alloc);
     show(&mut shown, text.bytes())?;
     Ok(put_bytes_word(shown.bytes(), out)?)
@@ -52,7 +51,7 @@ fn field_at<const BIG: bool>(record: &[u8; 12], at: usize, width: u8) -> Result<
 fn field_in<const BIG: bool>(row: &[u8], out: &mut Text) -> Result<(), Odd> {
     let (at, row) = number8(row)?;
     let (width, row) = number8(row)?;
-    let (value, _) = number32(row)?;
+    let value = last(number32(row)?)?;
     let mut record = [0xee; 12];
     set_field::<BIG>(&mut record, usize::from(at), width, value)?;
     let read = field_at::<BIG>(&record, usize::from(at), width)?;
@@ -70,7 +69,7 @@ fn field(row: &[u8], out: &mut Text) -> Result<(), Odd> {
 
 fn first(alloc: Global, row: &[u8], out: &mut Text) -> Result<(), Odd> {
     let (order, row) = order(row)?;
-    let (front, _) = bytes(alloc, row)?;
+    let front = last(bytes(alloc, row)?)?;
     match first_word(order, front.bytes()) {
         Some(first) => Ok(put_word32(first, out)?),
         None => Ok(put_word(b"none", out)?),
@@ -80,7 +79,7 @@ fn first(alloc: Global, row: &[u8], out: &mut Text) -> Result<(), Odd> {
 fn set_first(alloc: Global, row: &[u8], out: &mut Text) -> Result<(), Odd> {
     let (order, row) = order(row)?;
     let (mut front, row) = bytes(alloc, row)?;
-    let (first, _) = number32(row)?;
+    let first = last(number32(row)?)?;
     if front.bytes().len() < 4 {
         return Err(Odd::Row);
     }
@@ -112,17 +111,17 @@ fn changed_text(alloc: Global, call: &[u8], mut text: Text, row: &[u8]) -> Resul
         b"of" => Ok(text),
         b"copy" => Ok(text.copy(alloc)?),
         b"push" => {
-            let (byte, _) = number8(row)?;
+            let byte = last(number8(row)?)?;
             text.push(byte)?;
             Ok(text)
         }
         b"extend" => {
-            let (more, _) = bytes(alloc, row)?;
+            let more = last(bytes(alloc, row)?)?;
             text.extend(more.bytes())?;
             Ok(text)
         }
-        b"cut" => cut_text(text, number(row)?.0),
-        b"first" => Ok(with_first(text, number8(row)?.0)),
+        b"cut" => cut_text(text, last(number(row)?)?),
+        b"first" => Ok(with_first(text, last(number8(row)?)?)),
         _ => Err(Odd::Row),
     }
 }
@@ -155,7 +154,7 @@ fn put_list(list: &List<Boxed<u8>>, out: &mut Text) -> Result<(), Odd> {
 }
 
 fn get(list: &List<Boxed<u8>>, row: &[u8], out: &mut Text) -> Result<(), Odd> {
-    let (at, _) = number32(row)?;
+    let at = last(number32(row)?)?;
     match list.get(at as usize) {
         Some(item) => Ok(put_number(u64::from(*item.get()), out)?),
         None => Ok(put_word(b"none", out)?),
@@ -169,7 +168,7 @@ fn replace(
     out: &mut Text,
 ) -> Result<(), Odd> {
     let (at, row) = number32(row)?;
-    let (item, _) = number8(row)?;
+    let item = last(number8(row)?)?;
     if list.len() <= at as usize {
         return Err(Odd::Row);
     }
@@ -179,7 +178,7 @@ fn replace(
 }
 
 fn cut_list(mut list: List<Boxed<u8>>, row: &[u8], out: &mut Text) -> Result<(), Odd> {
-    let (to, _) = number32(row)?;
+    let to = last(number32(row)?)?;
     if list.len() < to as usize {
         return Err(Odd::Row);
     }
@@ -205,7 +204,7 @@ fn list_call(alloc: Global, row: &[u8], out: &mut Text) -> Result<(), Odd> {
 
 fn fault(row: &[u8], out: &mut Text) -> Result<(), Odd> {
     let (which, row) = number16(row)?;
-    let (place, _) = number(row)?;
+    let place = last(number(row)?)?;
     Ok(put_fault(&Fault::at(which, place), out)?)
 }
 
@@ -270,6 +269,7 @@ set_first_word little ffffffff'a.c'00 12 -> 0c000000'a.c'00
 set_first_word big ffffffff'a.c'00 12 -> 0000000c'a.c'00
 set_first_word big 00000000 0x11223344 -> 11223344
 
+# a text, and what a call leaves in it
 text of . -> .
 text of 'int' -> 'int'
 text copy 'int' -> 'int'
@@ -283,6 +283,7 @@ text cut 'int' 2 -> 'in'
 text cut 'int' 3 -> 'int'
 text first 'int' 0x61 -> 'ant'
 
+# a list: its length and its items
 list of . -> 0
 list of 070509 -> 3 7 5 9
 list get 070509 0 -> 7
@@ -295,6 +296,7 @@ list cut 070509 3 -> 3 7 5 9
 list cut 070509 1 -> 1 7
 list cut 070509 0 -> 0
 
+# a number and a place
 fault 41 7 -> fault 41 7
 fault 94 4294967295 -> fault 94 4294967295
 ";

@@ -1,6 +1,6 @@
-use crate::table::{
-    Calls, Odd, all_hold, bytes, number8, put_bytes_word, put_number, put_word, put_word8,
-};
+use crate::answers::{put_bytes_word, put_number, put_word, put_word8};
+use crate::table::{Calls, Odd, all_hold};
+use crate::words::{bytes, last, number8};
 use st_base::Text;
 use stab_codes::{Segment, carries_symbol, code_name, code_of, segment_of};
 use std::alloc::Global;
@@ -16,7 +16,7 @@ fn letter_of(segment: Segment) -> u8 {
 
 /// The name of a code.
 fn name(row: &[u8], out: &mut Text) -> Result<(), Odd> {
-    let (code, _) = number8(row)?;
+    let code = last(number8(row)?)?;
     match code_name(code) {
         Some(name) => Ok(put_bytes_word(name, out)?),
         None => Ok(put_word(b"none", out)?),
@@ -25,7 +25,7 @@ fn name(row: &[u8], out: &mut Text) -> Result<(), Odd> {
 
 /// The code of a name.
 fn code(alloc: Global, row: &[u8], out: &mut Text) -> Result<(), Odd> {
-    let (name, _) = bytes(alloc, row)?;
+    let name = last(bytes(alloc, row)?)?;
     match code_of(name.bytes()) {
         Some(code) => Ok(put_word8(code, out)?),
         None => Ok(put_word(b"none", out)?),
@@ -34,7 +34,7 @@ fn code(alloc: Global, row: &[u8], out: &mut Text) -> Result<(), Odd> {
 
 /// The segments of the 32 kinds from one on.
 fn segments(row: &[u8], out: &mut Text) -> Result<(), Odd> {
-    let (first, _) = number8(row)?;
+    let first = last(number8(row)?)?;
     for more in 0..32u8 {
         out.push(letter_of(segment_of(first.wrapping_add(more))))?;
     }

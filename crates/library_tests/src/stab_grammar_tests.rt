@@ -1,6 +1,8 @@
+use crate::answers::{put_number, put_word};
 use crate::stab_strings::{parsed, put_read, symbol_of};
-use crate::table::{Calls, Odd, all_hold, bytes, number32, put_number, put_word};
+use crate::table::{Calls, Odd, all_hold};
 use crate::trees::{put_descriptor, put_name, put_tree};
+use crate::words::{bytes, last, number32};
 use st_base::{Fault, List, Memory, Refused, Text};
 use stab_grammar::{
     Num, Symbol, TypeTree, key_of, letters_of, numbers, print, print_type, renumber, shape,
@@ -10,7 +12,7 @@ use std::alloc::Global;
 // ---- parsing
 
 fn parse_bytes(alloc: Global, row: &[u8], out: &mut Text) -> Result<(), Odd> {
-    let (text, _) = bytes(alloc, row)?;
+    let text = last(bytes(alloc, row)?)?;
     put_read(alloc, text.bytes(), out)
 }
 
@@ -50,7 +52,7 @@ fn parse_deep(alloc: Global, row: &[u8], out: &mut Text) -> Result<(), Odd> {
     let (times, row) = number32(row)?;
     let (before, row) = bytes(alloc, row)?;
     let (inner, row) = bytes(alloc, row)?;
-    let (behind, _) = bytes(alloc, row)?;
+    let behind = last(bytes(alloc, row)?)?;
     repeat(&before, times, &mut text)?;
     text.extend(inner.bytes())?;
     repeat(&behind, times, &mut text)?;

@@ -1,6 +1,8 @@
 ghost use Rattle.std.specs.Prelude.{◌≡◌};
 
-use crate::table::{Odd, number16, put_fault, put_refused, put_word, shown};
+use crate::answers::{put_fault, put_refused, put_word};
+use crate::table::{Odd, shown};
+use crate::words::number16;
 use st_base::{Fault, Refused, Steps, Text};
 use stab_grammar::{Symbol, parse, print};
 use std::alloc::Global;

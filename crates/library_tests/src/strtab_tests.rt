@@ -1,17 +1,16 @@
 ghost use Rattle.std.specs.Prelude.{◌≡◌, position};
 ghost use Rattle.strtab.specs.StringTable.{is_zero};
 
-use crate::table::{
-    Calls, Odd, all_hold, bytes, bytes_of, number32, order, put_bytes_word, put_fault, put_number,
-    put_refused, put_word,
-};
+use crate::answers::{put_bytes_word, put_fault, put_number, put_refused, put_word};
+use crate::table::{Calls, Odd, all_hold};
+use crate::words::{bytes, bytes_of, last, number32, order};
 use st_base::{TOO_LARGE, Text};
 use std::alloc::Global;
 use strtab::{Builder, check_table, name_at};
 
 fn check(alloc: Global, row: &[u8], out: &mut Text) -> Result<(), Odd> {
     let (order, row) = order(row)?;
-    let (table, _) = bytes(alloc, row)?;
+    let table = last(bytes(alloc, row)?)?;
     match check_table(order, table.bytes()) {
         Ok(()) => Ok(put_word(b"ok", out)?),
         Err(fault) => Ok(put_fault(&fault, out)?),
@@ -20,7 +19,7 @@ fn check(alloc: Global, row: &[u8], out: &mut Text) -> Result<(), Odd> {
 
 fn name(alloc: Global, row: &[u8], out: &mut Text) -> Result<(), Odd> {
     let (table, row) = bytes(alloc, row)?;
-    let (strx, _) = number32(row)?;
+    let strx = last(number32(row)?)?;
     match name_at(table.bytes(), strx) {
         Ok(name) => Ok(put_bytes_word(name, out)?),
         Err(fault) => Ok(put_fault(&fault, out)?),
@@ -78,6 +77,7 @@ impl Calls for Strtab {
 }
 
 const ROWS: &[u8] = b"
+# the length in either order
 check_table little 0c000000'a.c'00'int'00 -> ok
 check_table big 0000000c'a.c'00'int'00 -> ok
 # the other order

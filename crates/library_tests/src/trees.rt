@@ -1,4 +1,4 @@
-use crate::table::{put_number, put_word};
+use crate::answers::{put_number, put_word};
 use st_base::{Memory, Text};
 use stab_grammar::{Choice, Descriptor, Field, Num, Numeral, Tag, TypeTree};
 
