@@ -1,0 +1,132 @@
+ghost use Rattle.std.specs.Prelude.{◌≡◌, position};
+ghost use Rattle.strtab.specs.StringTable.{is_zero};
+
+use crate::answers::{put_bytes_word, put_fault, put_number, put_refused, put_word};
+use crate::table::{Calls, Odd, all_hold};
+use crate::words::{bytes, bytes_of, last, number32, order};
+use st_base::{TOO_LARGE, Text};
+use std::alloc::Global;
+use strtab::{Builder, check_table, name_at};
+
+fn check(alloc: Global, row: &[u8], out: &mut Text) -> Result<(), Odd> {
+    let (order, row) = order(row)?;
+    let table = last(bytes(alloc, row)?)?;
+    match check_table(order, table.bytes()) {
+        Ok(()) => Ok(put_word(b"ok", out)?),
+        Err(fault) => Ok(put_fault(&fault, out)?),
+    }
+}
+
+fn name(alloc: Global, row: &[u8], out: &mut Text) -> Result<(), Odd> {
+    let (table, row) = bytes(alloc, row)?;
+    let strx = last(number32(row)?)?;
+    match name_at(table.bytes(), strx) {
+        Ok(name) => Ok(put_bytes_word(name, out)?),
+        Err(fault) => Ok(put_fault(&fault, out)?),
+    }
+}
+
+/// An order, and names: the offset of each, and the table.
+fn build(alloc: Global, row: &[u8], out: &mut Text) -> Result<(), Odd> {
+    let (order, row) = order(row)?;
+    let mut builder = Builder::new(alloc)?;
+    if !row.is_empty() {
+        for spelled in row.split(|b| *b == b' ') {
+            add(alloc, &mut builder, spelled, out)?;
+        }
+    }
+    Ok(put_bytes_word(builder.finish(order).bytes(), out)?)
+}
+
+/// The place of the first zero byte.
+pub fn zero_in(bytes: &[u8]) -> Option<usize>
+    ensures { result ≡ position is_zero bytes.now }
+{
+    bytes.iter().position(|b| *b == 0)
+}
+
+fn add(alloc: Global, builder: &mut Builder, spelled: &[u8], out: &mut Text) -> Result<(), Odd> {
+    let name = bytes_of(alloc, spelled)?;
+    if zero_in(name.bytes()).is_some() {
+        return Err(Odd::Row);
+    }
+    match builder.add(name.bytes()) {
+        Ok(strx) => Ok(put_number(u64::from(strx), out)?),
+        Err(refused) => put_refused(&refused, out),
+    }
+}
+
+#[derive(Drop)]
+struct Strtab;
+
+impl Calls for Strtab {
+    fn answer(
+        &mut self,
+        alloc: Global,
+        call: &[u8],
+        row: &[u8],
+        out: &mut Text,
+    ) -> Result<(), Odd> {
+        match call {
+            b"check_table" => check(alloc, row, out),
+            b"name_at" => name(alloc, row, out),
+            b"build" => build(alloc, row, out),
+            _ => Err(Odd::Row),
+        }
+    }
+}
+
+const ROWS: &[u8] = b"
+# the length in either order
+check_table little 0c000000'a.c'00'int'00 -> ok
+check_table big 0000000c'a.c'00'int'00 -> ok
+# the other order
+check_table big 0c000000'a.c'00'int'00 -> fault 10 0
+check_table little 0000000c'a.c'00'int'00 -> fault 10 0
+# a word that does not count itself
+check_table little 03000000'ab'00 -> fault 10 0
+# one byte short, and one too many
+check_table little 0c000000'a.c'00'int' -> fault 10 0
+check_table little 0c000000'a.c'00'int'0000 -> fault 10 0
+# the word alone
+check_table big 00000004 -> ok
+check_table little 04000000 -> ok
+# too few bytes for a word
+check_table little 030000 -> fault 10 0
+check_table big . -> fault 10 0
+
+# no name
+name_at 0c000000'a.c'00'int'00 0 -> .
+name_at . 0 -> .
+name_at 0c000000'a.c'00'int'00 4 -> 'a.c'
+name_at 0c000000'a.c'00'int'00 8 -> 'int'
+# the end of a name, and its zero byte
+name_at 0c000000'a.c'00'int'00 9 -> 'nt'
+name_at 0c000000'a.c'00'int'00 11 -> .
+# inside the length word
+name_at 0c000000'a.c'00'int'00 1 -> fault 11 1
+name_at 0c000000'a.c'00'int'00 3 -> fault 11 3
+name_at . 3 -> fault 11 3
+# at the end of the table, and far past it
+name_at 0c000000'a.c'00'int'00 12 -> fault 12 12
+name_at 0c000000'a.c'00'int'00 4294967295 -> fault 12 4294967295
+name_at . 4 -> fault 12 4
+# no zero byte behind the first byte of a name, and its last
+name_at 07000000'a.c' 4 -> fault 13 4
+name_at 07000000'a.c' 6 -> fault 13 6
+
+# each name once, in order of first use, and no place for an empty one
+build little 'a.c' . 'int' 'a.c' -> 4 0 8 4 0c000000'a.c'00'int'00
+build big 'a.c' . 'int' 'a.c' -> 4 0 8 4 0000000c'a.c'00'int'00
+# a name that another one ends in
+build big 'int' 'nt' -> 4 8 0000000b'int'00'nt'00
+# a table without names
+build little -> 04000000
+build big -> 00000004
+build big . -> 0 00000004
+";
+
+#[test]
+fn strtab_answers(rt: HostRuntime) {
+    all_hold(&rt, rt.alloc(), &mut Strtab, ROWS);
+}
