@@ -1,24 +1,33 @@
 -- Worked values of outcomes, of what inputs come to, and of what a run promises, by hand.
-use Rattle.std.proofs.Common.{◌≡◌, true, false, [], ◌∷◌, Some, None, refl, ◌∙◌, ◌≤◌, lit≤, lit<, arith}
+use Rattle.std.proofs.Common.{◌≡◌, ℕ, true, false, List, [], ◌∷◌, Some, None, refl, sym, ap, ◌∙◌, ◌≤◌, lit≤, lit<, arith}
 use Rattle.std.specs.Prelude.{codes, decimal}
-use Rattle.std.proofs.lemmas.Fmt.{decimal_digit, decimal_step}
 use Rattle.std.specs.Cmp.Lexicographic.{nat_list_cmp_total}
 use Rattle.std.specs.FinMap.{get, insert, empty, get-insert, get-empty}
+use Rattle.std.proofs.lemmas.Fmt.{decimal_digit, decimal_step}
 use Rattle.outside.specs.Causes.{Contents}
 use Rattle.st_base.specs.Faults.{fault_at}
 use Rattle.st_base.specs.declared.fault.TheConstants.{TRUNCATED}
+use Rattle.stabs_tool.specs.declared.command.Query.TheVariants.{TagNamed}
+use Rattle.stabs_tool.specs.declared.command.Command.TheVariants as commands
+use Rattle.stabs_tool.specs.declared.command.Asked.{Asked}
+use Rattle.stabs_tool.specs.declared.command.Asked.TheVariants as asks
 use Rattle.stabs_tool.specs.declared.inputs.Cause.TheVariants as cause
 use Rattle.stabs_tool.specs.declared.inputs.Inputs.TheVariants.{All, Fault, TooMuch}
+use Rattle.stabs_tool.specs.declared.outcome.Outcome.{Outcome}
+use Rattle.stabs_tool.specs.Commands.{asked, IsRead, IsWritten, IsWrong}
 use Rattle.stabs_tool.specs.Outcomes.{printed, usage, absent, limit, refused, nothing, is_status}
-use Rattle.stabs_tool.specs.Causes.{Gained, GainedFront, Lacks}
+use Rattle.stabs_tool.specs.Causes.{seen, Gained, GainedFront, Lacks}
 use Rattle.stabs_tool.specs.Inputs.{loaded_inputs}
+use Rattle.stabs_tool.specs.Promise.{Promise}
+use Rattle.stabs_tool.specs.Replies.{IsOutcome, Means}
+use Rattle.stabs_tool.proofs.Promises.{promise_of_nothing}
 
 -- ---- statuses and lines
 
 seven : is_status 7 ≡ true
 seven = refl
 
--- `main` alone ends with 1
+-- no run ends with 1
 one : is_status 1 ≡ false
 one = refl
 
@@ -104,3 +113,45 @@ front = (8 ∷ 9 ∷ [], 10 ∷ [], refl, refl)
 
 not_gained : ¬ (Gained (Some (7 ∷ [])) (Some (7 ∷ 8 ∷ [])) (8 ∷ 9 ∷ []))
 not_gained e = absurd cc
+
+-- ---- outcomes of words
+
+-- no words are no command, and nothing else is said of them
+no_words : IsOutcome [] files (usage 0)
+no_words = refl
+
+not_none : IsOutcome [] files nothing → ⊥
+unfolding usage nothing
+not_none e = let status : ◌≡◌ {A = ℕ} 0 2 = ap (λ (o : Outcome). o.status) e in absurd cc
+
+-- a question about the tag `t` of a file
+abbrev question : List ℕ → Asked
+question file = asks.Command (commands.Query file (TagNamed 0 (codes "t")))
+
+-- the files lack `b`, so it is told to be absent
+b_is_absent : Means (question (codes "b")) files (absent (codes "b"))
+b_is_absent = rw lacks_b refl
+
+-- ---- what a run promises
+
+-- a run with no words, of files that hold `a` and do not change, and of a sink that held 7: its bytes then, and the status
+abbrev Runs : List ℕ → ℕ → Type 0
+Runs now status =
+    Promise (IsOutcome []) (IsRead (asked [])) (IsWritten (asked [])) (IsWrong (asked [])) (seen (Some files) 0 0 None) (seen (Some files) 0 0 None)
+    (Some (7 ∷ [])) (Some now) 0 0 status
+
+-- out of memory is promised at any time, before anything is printed
+out_of_memory : Runs (7 ∷ []) 8
+out_of_memory = promise_of_nothing (IsOutcome []) (IsRead (asked [])) (IsWritten (asked [])) (IsWrong (asked []))
+    (λ m o other p q. p ∙ sym q) (seen (Some files) 0 0 None) (seen (Some files) 0 0 None) refl refl (Some (7 ∷ [])) (Some (7 ∷ [])) 0 refl
+
+-- no file is absent where no words name one
+not_absent : (now : List ℕ) → Runs now 5 → ⊥
+not_absent now p = (p.absent_told refl).1
+
+-- and nothing but the usage is printed
+not_silent : Runs (7 ∷ []) 2 → ⊥
+unfolding usage
+not_silent p = by_told (p.usage_told refl) where
+  by_told : (at : ℕ) × (at ≡ 0) × Gained (Some (7 ∷ [])) (Some (7 ∷ [])) (usage at).text → ⊥
+  by_told (at, is, gained) = absurd cc

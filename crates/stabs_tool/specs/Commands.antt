@@ -1,6 +1,7 @@
 -- The commands: the words of each, the files that it reads and the one that it stores. This is this project's own.
 use Rattle.std.specs.Prelude.{◌≡◌, ℕ, max, List, [], ◌∷◌, Option, Some, None, Contains}
 use Rattle.st_base.specs.declared.sizes.TheConstants.{FILE_LIMIT}
+use Rattle.stabs_tool.specs.declared.words.TheConstants.{GREATEST_NUMBER}
 use Rattle.stabs_tool.specs.declared.words.Want.{Want}
 use Rattle.stabs_tool.specs.declared.words.Want.TheVariants.{This, Any, Number}
 use Rattle.stabs_tool.specs.declared.words.Keyword.TheVariants as keywords
@@ -12,7 +13,7 @@ use Rattle.stabs_tool.specs.declared.command.Command.{Command}
 use Rattle.stabs_tool.specs.declared.command.Command.TheVariants as commands
 use Rattle.stabs_tool.specs.declared.command.Asked.{Asked}
 use Rattle.stabs_tool.specs.declared.command.Asked.TheVariants as asks
-use Rattle.stabs_tool.specs.Words.{greatest_number, number_of, word_of, wrong_place}
+use Rattle.stabs_tool.specs.Words.{number_of, word_of, wrong_place}
 
 -- ---- the forms of command lines
 
@@ -20,7 +21,7 @@ use Rattle.stabs_tool.specs.Words.{greatest_number, number_of, word_of, wrong_pl
 abbrev pub places_of : Form → List Want
 -- `query FILE tag U NAME`
 places_of forms.TagNamed =
-    This keywords.Query ∷ Any operands.File ∷ This keywords.Tag ∷ Number operands.Unit greatest_number ∷ Any operands.Name ∷ []
+    This keywords.Query ∷ Any operands.File ∷ This keywords.Tag ∷ Number operands.Unit GREATEST_NUMBER ∷ Any operands.Name ∷ []
 
 -- all forms
 abbrev pub all_forms : List Form

@@ -4,6 +4,7 @@ use Rattle.std.specs.Str.{bytes_eq, is_utf8}
 use Rattle.std.specs.Result.{result_ok}
 use Rattle.readers.specs.Readers.{whole_of}
 use Rattle.readers.specs.Words.{number_at}
+use Rattle.stabs_tool.specs.declared.words.TheConstants.{GREATEST_NUMBER}
 use Rattle.stabs_tool.specs.declared.words.Keyword.{Keyword}
 use Rattle.stabs_tool.specs.declared.words.Keyword.TheVariants as keywords
 use Rattle.stabs_tool.specs.declared.words.Operand.{Operand}
@@ -17,13 +18,9 @@ use Rattle.stabs_tool.specs.declared.words.Want.TheVariants.{This, Any, Number}
 abbrev pub is_text : List ℕ → Bool
 is_text word = is_utf8 word
 
--- the greatest number in a command
-abbrev pub greatest_number : ℕ
-greatest_number = 4294967295
-
 -- the number that a word spells in decimal digits without a leading zero, up to the greatest
 abbrev pub spelled_number : List ℕ → Option ℕ
-spelled_number word = result_ok (whole_of (number_at greatest_number) word)
+spelled_number word = result_ok (whole_of (number_at GREATEST_NUMBER) word)
 
 -- that number; 0 where the word spells none
 abbrev pub number_of : List ℕ → ℕ

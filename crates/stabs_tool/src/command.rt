@@ -3,7 +3,7 @@
 ghost use Rattle.std.specs.Prelude.{◌≡◌, IfOk};
 ghost use Rattle.stabs_tool.specs.Commands as spec;
 
-use crate::words::{Keyword, Operand, Want, number_of, text_of, wrong_place};
+use crate::words::{GREATEST_NUMBER, Keyword, Operand, Want, number_of, text_of, wrong_place};
 use st_base::{FILE_LIMIT, List, Memory, Text};
 use std::alloc::Global;
 
@@ -47,7 +47,7 @@ fn places_of(form: Form) -> &'static [Want]
             Want::This(Keyword::Query),
             Want::Any(Operand::File),
             Want::This(Keyword::Tag),
-            Want::Number(Operand::Unit, u32::MAX),
+            Want::Number(Operand::Unit, GREATEST_NUMBER),
             Want::Any(Operand::Name),
         ],
     }

@@ -8,6 +8,9 @@ use st_base::{Memory, Text};
 use std::alloc::Global;
 use std::str::from_utf8;
 
+/// The greatest number in a command.
+pub const GREATEST_NUMBER: u32 = u32::MAX;
+
 /// A word that stands in commands as it is.
 #[derive(Clone, Copy, Debug, Drop, PartialEq, Eq)]
 pub enum Keyword {
@@ -56,7 +59,7 @@ fn is_text(word: &Text) -> bool
 fn is_number(most: u32, word: &Text) -> bool
     ensures { result ≡ spec.is_number most word.now }
 {
-    match whole_number(u32::MAX, word.bytes()) {
+    match whole_number(GREATEST_NUMBER, word.bytes()) {
         Some(number) => number <= most,
         None => false,
     }
@@ -138,5 +141,5 @@ pub fn text_of(
 pub fn number_of(places: &[Want], words: &[Text], wanted: Operand) -> u32
     ensures { result ≡ spec.number_of (spec.word_of wanted places.now words.now) }
 {
-    whole_number(u32::MAX, word_of(places, words, wanted)).unwrap_or(0)
+    whole_number(GREATEST_NUMBER, word_of(places, words, wanted)).unwrap_or(0)
 }
