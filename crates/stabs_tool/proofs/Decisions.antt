@@ -1,6 +1,8 @@
 -- What was replied is decided on, with its causes: for words that are no command, and for a command by what its inputs came to.
-use Rattle.std.proofs.Common.{◌≡◌, ◌≢◌, ℕ, zero, suc, ◌⊎◌, inl, inr, true, List, Option, Some, None, Result, Ok, Err, refl, sym, ap, subst, ◌∙◌}
-use Rattle.std.specs.Prelude.{IfOk, IfSome}
+use Rattle.std.proofs.Common.{◌≡◌, ◌≢◌, ℕ, zero, suc, ◌⊎◌, inl, inr, Bool, true, false, List, [], ◌∷◌, Option, Some, None, Result, Ok, Err, refl, sym, ap, subst, ◌∙◌}
+use Rattle.std.specs.Prelude.{◌==◌, IfOk, IfSome}
+use Rattle.std.specs.List.{list_any}
+use Rattle.std.proofs.lemmas.Bool.{true≢false}
 use Rattle.std.proofs.lemmas.List.Elements.{Contains-get_or}
 use Rattle.outside.specs.Causes.{Contents}
 use Rattle.st_base.specs.Number.{IsBytes}
@@ -76,38 +78,38 @@ record IsPlain (o : Outcome) : Type 0 where
   pub not_write : o.status ≢ WRITE_FAULT
   pub not_memory : o.status ≢ NO_MEMORY
 
-plain_done : (o : Outcome) → Prints DONE o → IsPlain o
-plain_done o p = record {
-  status = ap is_status p.answers;
+-- the statuses of these
+is_plain : ℕ → Bool
+is_plain number = list_any (λ status. status == number) (DONE ∷ REFUSED ∷ LIMIT ∷ [])
+
+-- such a status is no other
+differs : (status : ℕ) (o : Outcome) → Prints status o → is_plain status ≡ true → (other : ℕ) → is_plain other ≡ false → o.status ≢ other
+differs status o p plain other none e = let same : status ≡ other = sym p.answers ∙ e in absurd (true≢false (sym plain ∙ ap is_plain same ∙ none))
+
+-- an outcome with such a status is one
+plain_of : (status : ℕ) (o : Outcome) → Prints status o → is_status status ≡ true → is_plain status ≡ true → IsPlain o
+unfolding is_plain
+plain_of status o p listed plain = record {
+  status = ap is_status p.answers ∙ listed;
   alone = p.alone;
-  not_usage = λ e. let k = sym p.answers ∙ e in absurd cc;
-  not_absent = λ e. let k = sym p.answers ∙ e in absurd cc;
-  not_read = λ e. let k = sym p.answers ∙ e in absurd cc;
-  not_write = λ e. let k = sym p.answers ∙ e in absurd cc;
-  not_memory = λ e. let k = sym p.answers ∙ e in absurd cc;
+  not_usage = differs status o p plain USAGE refl;
+  not_absent = differs status o p plain ABSENT refl;
+  not_read = differs status o p plain READ_FAULT refl;
+  not_write = differs status o p plain WRITE_FAULT refl;
+  not_memory = differs status o p plain NO_MEMORY refl;
 }
+
+plain_done : (o : Outcome) → Prints DONE o → IsPlain o
+unfolding is_plain
+plain_done o p = plain_of DONE o p refl refl
 
 plain_refused : (o : Outcome) → Prints REFUSED o → IsPlain o
-plain_refused o p = record {
-  status = ap is_status p.answers;
-  alone = p.alone;
-  not_usage = λ e. let k = sym p.answers ∙ e in absurd cc;
-  not_absent = λ e. let k = sym p.answers ∙ e in absurd cc;
-  not_read = λ e. let k = sym p.answers ∙ e in absurd cc;
-  not_write = λ e. let k = sym p.answers ∙ e in absurd cc;
-  not_memory = λ e. let k = sym p.answers ∙ e in absurd cc;
-}
+unfolding is_plain
+plain_refused o p = plain_of REFUSED o p refl refl
 
 plain_limit : (o : Outcome) → Prints LIMIT o → IsPlain o
-plain_limit o p = record {
-  status = ap is_status p.answers;
-  alone = p.alone;
-  not_usage = λ e. let k = sym p.answers ∙ e in absurd cc;
-  not_absent = λ e. let k = sym p.answers ∙ e in absurd cc;
-  not_read = λ e. let k = sym p.answers ∙ e in absurd cc;
-  not_write = λ e. let k = sym p.answers ∙ e in absurd cc;
-  not_memory = λ e. let k = sym p.answers ∙ e in absurd cc;
-}
+unfolding is_plain
+plain_limit o p = plain_of LIMIT o p refl refl
 
 on_tag_plain : (unit : UnitOf) (tag : List ℕ) (o : Outcome) → RepliesOnTag unit tag o → IsPlain o
 on_tag_plain unit tag o (inl h) = subst IsPlain (sym h.1) (plain_done nothing prints_nothing)
