@@ -1,17 +1,57 @@
 #!/bin/sh
-# Checks of our own, after the gate's: the committed object is what its script makes, and no text names a path of
-# the machine that it was written on.
+# Checks of our own, after the gate's: the committed object is what its script makes, no text names a path of the machine that it
+# was written on, and the built program ends with the status and the text of each case.
 cd "$(dirname "$0")/.." || exit 1
 failed=0
 
-if ! scripts/make_a_o.py | cmp -s - crates/stabs_tool/data/a.o; then
-    echo "crates/stabs_tool/data/a.o is not what scripts/make_a_o.py makes" >&2
+complain() {
+    echo "$1" >&2
     failed=1
-fi
+}
+
+# the program, with these words in this folder, ends with this status and prints this text: ends FOLDER STATUS TEXT WORDS..
+stabs=$(pwd)/stabs
+ends() {
+    folder=$1 status=$2 text=$3
+    shift 3
+    printed=$(cd "$folder" && "$stabs" "$@" 2>/dev/null)
+    answered=$?
+    [ "$answered" = "$status" ] || complain "stabs $*: status $answered, not $status"
+    [ "$printed" = "$text" ] || complain "stabs $*: printed '$printed', not '$text'"
+}
+
+scripts/make_a_o.py | cmp -s - crates/stabs_tool/data/a.o ||
+    complain "crates/stabs_tool/data/a.o is not what scripts/make_a_o.py makes"
 
 if git grep -nIE '/(work|tmp|opt|root|home)/' -- . ':!scripts/check_repository.sh' >&2; then
-    echo "a committed file names a path of a machine" >&2
-    failed=1
+    complain "a committed file names a path of a machine"
+fi
+
+# ---- the edge of the program: what its tests in memory cannot see
+./stabs >/dev/null 2>&1
+ends . 2 'usage: word 0'
+ends . 2 'usage: word 0' ask a.o
+ends . 2 'usage: word 3' query a.o tag 01 list
+ends . 5 'absent missing.o' query missing.o tag 0 list
+ends . 6 'read fault docs' query docs tag 0 list
+ends . 3 'refused README.md 1 0 0' query README.md tag 0 list
+ends crates/stabs_tool/data 0 none query a.o tag 0 lost
+ends crates/stabs_tool/data 0 '3
+0 T list s8val:#1,0,32;next:#2,32,32;;
+1 t int r#1;-2147483648;2147483647;
+2 - - *#0' query a.o tag 0 list
+
+# a file of one byte more than the limit
+folder=$(mktemp -d)
+truncate -s 134217729 "$folder/long.o"
+ends "$folder" 9 'limit 134217728' query long.o tag 0 list
+rm -r "$folder"
+
+# a sink that takes nothing
+if [ -c /dev/full ]; then
+    "$stabs" query missing.o tag 0 list >/dev/full 2>/dev/null
+    answered=$?
+    [ "$answered" = 7 ] || complain "stabs on a full device: status $answered, not 7"
 fi
 
 exit $failed
