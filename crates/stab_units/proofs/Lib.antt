@@ -1,0 +1,12 @@
+pub mod Examples
+pub mod ListLemmas
+pub mod FirstLemmas
+pub mod NestSweep
+pub mod CountsLaw
+pub mod RunSweep
+pub mod PlaceSweep
+pub mod Together
+pub mod SpanLemmas
+pub mod ReadingLemmas
+pub mod UnitLemmas
+pub mod OneLaws

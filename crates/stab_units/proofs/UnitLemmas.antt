@@ -1,0 +1,82 @@
+-- Each span of an outline begins in its list; units in order, and the first fault among them.
+use Rattle.std.proofs.Common.{◌≡◌, ℕ, zero, suc, ◌+◌, ◌<◌, inl, inr, Some, arith, refl, sym, ap, subst, ◌∙◌, List, [], ◌∷◌, ◌++◌, append-nil, append_assoc, slice_get, length}
+use Rattle.std.proofs.lemmas.Option.{same_Some}
+use Rattle.st_base.specs.declared.fault.Fault.{Fault}
+use Rattle.nlist_codec.specs.declared.named.Named.{Named}
+use Rattle.stab_units.specs.declared.kinds.SourceMark.{SourceMark}
+use Rattle.stab_units.specs.declared.kinds.SourceMark.TheVariants.{Directory, Start, Stop, NoMark}
+use Rattle.stab_units.specs.declared.outline_types.UnitSpan.{UnitSpan}
+use Rattle.stab_units.specs.declared.unit.Unit.{Unit}
+use Rattle.stab_units.specs.Words.{next}
+use Rattle.stab_units.specs.Marks.{mark_at}
+use Rattle.stab_units.specs.Outlines.{span_step, span_at, directory_of, units_from, IsOutlined}
+use Rattle.stab_units.specs.Units.{stabs_of, parsed, parsed_in, IsUnitOf, AreUnitsOf, UnitFault, SpansFault}
+use Rattle.stab_units.specs.Walking.{HaveUnits}
+
+-- ---- spans
+
+first_or_later : (span s : UnitSpan) (more : List UnitSpan) (k n : ℕ) → span.first < n → ((j : ℕ) → slice_get more j ≡ Some s → s.first < n) → slice_get (span ∷ more) k ≡ Some s → s.first < n
+first_or_later span s more zero n here later e = subst (λ (z : UnitSpan). z.first < n) (same_Some span s e) here
+first_or_later span s more (suc k) n here later e = later k e
+
+step_within : (m : SourceMark) (span s : UnitSpan) (more : List UnitSpan) (k n : ℕ) → span.first < n → ((j : ℕ) → slice_get more j ≡ Some s → s.first < n)
+    → slice_get (span_step m span more) k ≡ Some s → s.first < n
+step_within Directory span s more k n here later e = later k e
+step_within Start span s more k n here later e = first_or_later span s more k n here later e
+step_within Stop span s more k n here later e = later k e
+step_within NoMark span s more k n here later e = later k e
+
+spans_within : (t : ℕ) (d : List ℕ) (p : ℕ) (es : List Named) (k : ℕ) (s : UnitSpan) → slice_get (units_from t d p es) k ≡ Some s → s.first < p + length es
+spans_within t d p [] k s e = absurd cc
+spans_within t d p (x ∷ es) k s e =
+    step_within (mark_at x (next es)) (span_at t d p x es) s (units_from t (directory_of (mark_at x (next es)) x.name) (p + 1) es) k (p + length (x ∷ es)) (omega arith)
+    (λ j i. let h = spans_within t (directory_of (mark_at x (next es)) x.name) (p + 1) es j s i in omega arith) e
+
+-- a span of an outline begins at an entry of the list
+pub outlined_within : (entries : List Named) (span : UnitSpan) → IsOutlined entries span → span.first < length entries
+outlined_within entries span o = let h = spans_within o.text_end [] 0 entries o.number span o.is in omega arith
+
+-- ---- units in order
+
+units-append : (entries : List Named) (ss : List UnitSpan) (us : List Unit) (s : UnitSpan) (u : Unit) → AreUnitsOf entries ss us → IsUnitOf entries s u → AreUnitsOf entries (ss ++ s ∷ []) (us ++ u ∷ [])
+units-append entries [] [] s u a b = (b, tt)
+units-append entries [] (v ∷ us) s u a b = absurd a
+units-append entries (t ∷ ss) [] s u a b = absurd a
+units-append entries (t ∷ ss) (v ∷ us) s u a b = (a.0, units-append entries ss us s u a.1 b)
+
+parsed_in-append : (entries : List Named) (ss : List UnitSpan) (s : UnitSpan) → parsed_in entries (ss ++ s ∷ []) ≡ parsed_in entries ss + parsed (stabs_of entries s)
+parsed_in-append entries [] s = omega arith
+parsed_in-append entries (t ∷ ss) s = let h = parsed_in-append entries ss s in omega arith
+
+fault-behind : (entries : List Named) (done rest : List UnitSpan) (us : List Unit) (s : UnitSpan) (f : Fault) → AreUnitsOf entries done us → UnitFault entries s f → SpansFault entries (done ++ s ∷ rest) f
+fault-behind entries [] rest us s f a h = inl h
+fault-behind entries (t ∷ done) rest [] s f a h = absurd a
+fault-behind entries (t ∷ done) rest (u ∷ us) s f a h = inr (u, a.0, fault-behind entries done rest us s f a.1 h)
+
+-- no unit was read yet
+pub units_start : (entries : List Named) (all : List UnitSpan) (start : ℕ) (units : List Unit) → units ≡ [] → HaveUnits entries all all start units start
+units_start entries all start units is = subst (λ (z : List Unit). HaveUnits entries all all start z start) (sym is)
+    (record { done = []; read = tt; whole = refl; counted = omega arith })
+
+-- one unit more
+pub units_more : (entries : List Named) (all left rest : List UnitSpan) (start : ℕ) (units units_new : List Unit) (steps steps_new : ℕ) (s : UnitSpan) (u : Unit) → left ≡ s ∷ rest
+    → IsUnitOf entries s u → units_new ≡ units ++ u ∷ [] → steps_new ≡ steps + parsed (stabs_of entries s) → HaveUnits entries all left start units steps → HaveUnits entries all rest start units_new steps_new
+units_more entries all left rest start units units_new steps steps_new s u is one pushed ticks was = record {
+  done = was.done ++ s ∷ [];
+  read = subst (λ (z : List Unit). AreUnitsOf entries (was.done ++ s ∷ []) z) (sym pushed) (units-append entries was.done units s u was.read one);
+  whole = append_assoc was.done (s ∷ []) rest ∙ ap (λ (z : List UnitSpan). was.done ++ z) (sym is) ∙ was.whole;
+  counted = let c = was.counted in let a = parsed_in-append entries was.done s in omega arith;
+}
+
+-- the next unit has a fault
+pub units_fault : (entries : List Named) (all left rest : List UnitSpan) (start : ℕ) (units : List Unit) (steps : ℕ) (s : UnitSpan) (f : Fault) → left ≡ s ∷ rest
+    → UnitFault entries s f → HaveUnits entries all left start units steps → SpansFault entries all f
+units_fault entries all left rest start units steps s f is fault was =
+    subst (λ (z : List UnitSpan). SpansFault entries z f) (ap (λ (z : List UnitSpan). was.done ++ z) (sym is) ∙ was.whole) (fault-behind entries was.done rest units s f was.read fault)
+
+-- all units are read
+pub units_all : (entries : List Named) (all left : List UnitSpan) (start : ℕ) (units : List Unit) (steps : ℕ) → left ≡ [] → HaveUnits entries all left start units steps
+    → AreUnitsOf entries all units × (steps ≡ start + parsed_in entries all)
+units_all entries all left start units steps is was =
+    let same : was.done ≡ all = sym (append-nil was.done) ∙ ap (λ (z : List UnitSpan). was.done ++ z) (sym is) ∙ was.whole in
+    (subst (λ (z : List UnitSpan). AreUnitsOf entries z units) same was.read, was.counted ∙ ap (λ (z : List UnitSpan). start + parsed_in entries z) same)

@@ -1,0 +1,11 @@
+pub mod Words
+pub mod Firsts
+pub mod Nests
+pub mod Counts
+pub mod Runs
+pub mod Marks
+pub mod Outlines
+pub mod Sweeps
+pub mod Units
+pub mod Worlds
+pub mod Walking

@@ -1,0 +1,48 @@
+//! What the definitions of outlines and units say of any entries.
+
+ghost use Rattle.std.specs.Prelude.{◌≡◌, ◌⊎◌, ℕ, List, Option, MatchOption};
+ghost use Rattle.st_base.specs.declared.fault.Fault.{Fault};
+ghost use Rattle.nlist_codec.specs.declared.named.Named.{Named};
+ghost use Rattle.stab_units.specs.declared.outline_types.Marks.{Marks};
+ghost use Rattle.stab_units.specs.declared.outline_types.UnitSpan.{UnitSpan};
+ghost use Rattle.stab_units.specs.declared.unit.Unit.{Unit};
+ghost use Rattle.stab_units.specs.Nests.{closing, in_blocks, in_headers};
+ghost use Rattle.stab_units.specs.Counts.{ClosesAt, NeverCloses};
+ghost use Rattle.stab_units.specs.Outlines.{OutlineFault};
+ghost use Rattle.stab_units.specs.Units.{IsUnitOf, UnitFault};
+ghost use Rattle.stab_units.specs.Worlds.{AreUnits, UnitsFault};
+
+use stab_grammar::one_symbol;
+
+/// A list of entries either has no fault of an outline, or exactly one that is told.
+pub fn one_outline()
+    ensures some { (marks : Marks) (entries : List Named) → (f : Option Fault) × OutlineFault marks entries f }
+    ensures one { (marks : Marks) (entries : List Named) (f g : Option Fault) → OutlineFault marks entries f → OutlineFault marks entries g → f ≡ g }
+{}
+
+/// A span is that of exactly one unit, or its strings have exactly one first fault.
+pub fn one_unit()
+    ensures some { (entries : List Named) (span : UnitSpan) → ((unit : Unit) × IsUnitOf entries span unit) ⊎ ((f : Fault) × UnitFault entries span f) }
+    ensures one { (entries : List Named) (span : UnitSpan) (u v : Unit) → IsUnitOf entries span u → IsUnitOf entries span v → u ≡ v }
+    ensures one_fault { (entries : List Named) (span : UnitSpan) (f g : Fault) → UnitFault entries span f → UnitFault entries span g → f ≡ g }
+    ensures not_both { (entries : List Named) (span : UnitSpan) (unit : Unit) (f : Fault) → IsUnitOf entries span unit → UnitFault entries span f → ⊥ }
+{
+    one_symbol();
+}
+
+/// The entries of an object either are exactly one list of units, or have exactly one fault that is told.
+pub fn one_units()
+    ensures some { (text_end : ℕ) (entries : List Named) → ((units : List Unit) × AreUnits text_end entries units) ⊎ ((f : Fault) × UnitsFault text_end entries f) }
+    ensures one { (text_end : ℕ) (entries : List Named) (us vs : List Unit) → AreUnits text_end entries us → AreUnits text_end entries vs → us ≡ vs }
+    ensures one_fault { (text_end : ℕ) (entries : List Named) (f g : Fault) → UnitsFault text_end entries f → UnitsFault text_end entries g → f ≡ g }
+    ensures not_both { (text_end : ℕ) (entries : List Named) (units : List Unit) (f : Fault) → AreUnits text_end entries units → UnitsFault text_end entries f → ⊥ }
+{
+    one_symbol();
+}
+
+/// What closes a header range, and a block, is the first entry behind it up to which ends have caught up with begins, before the next
+/// N_SO; and nothing closes it where there is no such entry.
+pub fn closing_law()
+    ensures headers { (es : List Named) (more : ℕ) → MatchOption (closing in_headers es more) (NeverCloses in_headers es more) (ClosesAt in_headers es more) }
+    ensures blocks { (es : List Named) (more : ℕ) → MatchOption (closing in_blocks es more) (NeverCloses in_blocks es more) (ClosesAt in_blocks es more) }
+{}
