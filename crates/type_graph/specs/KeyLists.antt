@@ -1,0 +1,36 @@
+-- Lists in which each key stands once, as they grow: a key that stands there already is not put there again. This project's own.
+use Rattle.std.specs.Prelude.{◌≡◌, Bool, if◌then◌else◌, List, [], ◌∷◌, ◌++◌, Result, OnOk}
+use Rattle.std.specs.Set.{is_member}
+use Rattle.std.specs.BTreeSet.{BTreeSet, contains}
+use Rattle.st_base.specs.declared.fault.Memory.{Memory}
+use Rattle.stab_grammar.specs.declared.tree.Key.{Key}
+use Rattle.stab_grammar.specs.declared.tree.Num.{Num}
+use Rattle.stab_grammar.specs.Keys.{key_of}
+use Rattle.stab_grammar.specs.Surface.{same_key, key_order}
+
+-- the key stands in the list
+abbrev pub has : List Key → Key → Bool
+has keys key = is_member same_key keys key
+
+-- the list with the key at its end, unless it stands there already
+abbrev pub added : List Key → Key → List Key
+added keys key = if has keys key then keys else (keys ++ key ∷ [])
+
+-- the list with more keys, one after another
+abbrev pub joined : List Key → List Key → List Key
+joined keys [] = keys
+joined keys (key ∷ more) = joined (added keys key) more
+
+-- each key of a list once, at its first place
+abbrev pub firsts : List Key → List Key
+firsts keys = joined [] keys
+
+-- adding the key of a number, unless memory runs out
+abbrev pub Adds : List Key → Num → List Key → Result (Unit {0}) Memory → Type 0
+Adds old num new result = OnOk result (new ≡ added old (key_of num))
+
+-- ---- the same keys in a set
+
+-- the set has the keys of the list and no others
+abbrev pub SameKeys : List Key → BTreeSet Key → Type 0
+SameKeys keys set = (key : Key) → contains key_order set key ≡ has keys key
