@@ -1,0 +1,10 @@
+pub mod Words
+pub mod Queries
+pub mod Numbers
+pub mod Units
+pub mod Listed
+pub mod Externals
+pub mod Vars
+pub mod ScopeText
+pub mod LineText
+pub mod Replies

@@ -1,0 +1,25 @@
+//! Queries and replies: the words of a query, and the text of the reply on a world. It stands on the listings of `type_graph` and on
+//! the scopes and lines of `scope_lines`.
+//!
+//! The law that the layers above use: words ask one query or have one wrong place (`Queries.asked`), and a query has exactly one
+//! reply on a world (`Replies.Answers`, `one_reply`, `a_reply`).
+#![tactic(auto)]
+
+mod address;
+mod external;
+mod laws;
+mod line_text;
+mod listed;
+mod numbers;
+mod query;
+mod read;
+mod reply;
+mod scope_text;
+mod units;
+mod vars;
+mod want;
+
+pub use laws::{a_reply, one_reply};
+pub use query::Query;
+pub use read::read_query;
+pub use reply::reply_text;

@@ -1,0 +1,119 @@
+//! What the places of a query's words want, and where words are not what is wanted.
+
+ghost use Rattle.std.specs.Prelude.{◌≡◌, ◌≤◌, length, IfSome};
+ghost use Rattle.query_text.specs.Words as spec;
+
+use crate::address::address_of;
+use readers::whole_number;
+use st_base::Text;
+use std::str::from_utf8;
+
+/// The greatest number in a query.
+pub const GREATEST_NUMBER: u32 = u32::MAX;
+/// The greatest number of a line in a query.
+pub const GREATEST_LINE: u32 = 65_535;
+
+/// The word that a query begins with; it says of which form the query is.
+#[derive(Clone, Copy, Debug, Drop, PartialEq, Eq)]
+pub enum Keyword {
+    Units,
+    Files,
+    Tag,
+    Type,
+    Number,
+    Scope,
+    Line,
+    Addresses,
+}
+
+/// What a place of a query's words wants. Wherever it stands, a word that is not UTF-8 is not wanted.
+#[derive(Clone, Copy, Debug, Drop, PartialEq, Eq)]
+pub enum Want {
+    /// This word.
+    This(Keyword),
+    /// Any word.
+    Any,
+    /// A decimal number without a leading zero, up to 4294967295.
+    Number,
+    /// The same, up to 65535.
+    Line,
+    /// `0x` and 1 to 8 hexadecimal digits.
+    Address,
+}
+
+// The bytes of a keyword.
+fn keyword_text(keyword: Keyword) -> &'static [u8]
+    ensures { result.now ≡ spec.keyword_text keyword }
+{
+    match keyword {
+        Keyword::Units => b"units",
+        Keyword::Files => b"files",
+        Keyword::Tag => b"tag",
+        Keyword::Type => b"type",
+        Keyword::Number => b"number",
+        Keyword::Scope => b"scope",
+        Keyword::Line => b"line",
+        Keyword::Addresses => b"addresses",
+    }
+}
+
+fn is_text(word: &Text) -> bool
+    ensures { result ≡ spec.is_text word.now }
+{
+    from_utf8(word.bytes()).is_ok()
+}
+
+fn is_wanted(want: Want, word: &Text) -> bool
+    ensures { result ≡ spec.is_wanted want word.now }
+{
+    match want {
+        Want::This(keyword) => word.bytes() == keyword_text(keyword),
+        Want::Any => true,
+        Want::Number => whole_number(GREATEST_NUMBER, word.bytes()).is_some(),
+        Want::Line => whole_number(GREATEST_LINE, word.bytes()).is_some(),
+        Want::Address => address_of(word.bytes()).is_some(),
+    }
+}
+
+fn holds(want: Want, word: &Text) -> bool
+    ensures { result ≡ spec.holds want word.now }
+{
+    is_text(word) && is_wanted(want, word)
+}
+
+/// The first place whose word is not what is wanted there, the number of words where one is missing, or the place of the first
+/// word too many; `None` where the words are what the places want. Takes no memory.
+pub fn wrong_place(places: &[Want], words: &[Text]) -> Option<usize>
+    ensures place { result ≡ spec.wrong_place places.now words.now }
+    ensures within { IfSome result (λ at. at ≤ length words.now) }
+{
+    for (at, want) in places.iter().enumerate() {
+        match words.get(at) {
+            None => return Some(at),
+            Some(word) if holds(*want, word) => {}
+            Some(_) => return Some(at),
+        }
+    }
+    if places.len() < words.len() {
+        Some(places.len())
+    } else {
+        None
+    }
+}
+
+/// The number that a word spells; 0 where it spells none. Takes no memory.
+pub fn number_of(word: &[u8]) -> u32
+    ensures { result ≡ spec.number_of word.now }
+{
+    whole_number(GREATEST_NUMBER, word).unwrap_or(0)
+}
+
+/// The number of a line that a word spells; 0 where it spells none. Takes no memory.
+pub fn line_of(word: &[u8]) -> u16
+    ensures { result ≡ spec.line_of word.now }
+{
+    match whole_number(GREATEST_LINE, word) {
+        Some(line) => line as u16,
+        None => 0,
+    }
+}
