@@ -1,7 +1,10 @@
 use crate::answers::{put_bytes_word, put_fault, put_number, put_word, put_word32};
 use crate::table::{Calls, Odd, all_hold};
 use crate::words::{bytes, last, number, number8, number16, number32, order, word};
-use st_base::{Boxed, Fault, Layout, List, Order, Steps, Text, first_word, set_first_word, show};
+use st_base::{
+    Boxed, Fault, Layout, List, Order, Steps, Text, first_word, put_hex2, put_hex4, put_hex8,
+    set_first_word, show,
+};
 use std::alloc::Global;
 use std::marker::Brand;
 
@@ -12,6 +15,22 @@ fn shown_form(alloc: Global, row: &[u8], out: &mut Text) -> Result<(), Odd> {
     let mut shown = Text::new(alloc);
     show(&mut shown, text.bytes())?;
     Ok(put_bytes_word(shown.bytes(), out)?)
+}
+
+// ---- numerals
+
+// The number in decimal, the lowest byte in two digits, the lowest two in four, and all in eight.
+fn numerals(alloc: Global, row: &[u8], out: &mut Text) -> Result<(), Odd> {
+    let number = last(number32(row)?)?;
+    let mut text = Text::new(alloc);
+    st_base::put_number(u64::from(number), &mut text)?;
+    text.push(b' ')?;
+    put_hex2((number % 0x100) as u8, &mut text)?;
+    text.push(b' ')?;
+    put_hex4((number % 0x1_0000) as u16, &mut text)?;
+    text.push(b' ')?;
+    put_hex8(number, &mut text)?;
+    Ok(put_bytes_word(text.bytes(), out)?)
 }
 
 // ---- fields
@@ -221,6 +240,7 @@ impl Calls for StBase {
     ) -> Result<(), Odd> {
         match call {
             b"show" => shown_form(alloc, row, out),
+            b"numerals" => numerals(alloc, row, out),
             b"field" => field(row, out),
             b"first_word" => first(alloc, row, out),
             b"set_first_word" => set_first(alloc, row, out),
@@ -242,6 +262,11 @@ show '-' -> '\\x2d'
 show '--' -> '--'
 # a blank, a backslash, and both sides of the printed bytes
 show 'long'20'int\\'00_7f_ff'!~' -> 'long\\x20int\\x5c\\x00\\x7f\\xff!~'
+
+# a number in decimal and in hexadecimal digits
+numerals 0 -> '0'20'00'20'0000'20'00000000'
+numerals 0x12a0f -> '76303'20'0f'20'2a0f'20'00012a0f'
+numerals 0xffffffff -> '4294967295'20'ff'20'ffff'20'ffffffff'
 
 # each width, at the places of one record
 field big 1 1 0x11 -> ee11eeeeeeeeeeeeeeeeeeee 00000011

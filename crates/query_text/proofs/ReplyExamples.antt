@@ -21,7 +21,7 @@ use Rattle.stab_units.specs.declared.unit.ItemText.TheVariants as texts
 use Rattle.type_graph.specs.declared.world.External.{External}
 use Rattle.type_graph.specs.declared.world.World.{World}
 use Rattle.query_text.specs.declared.query.Query.TheVariants as queries
-use Rattle.query_text.specs.Numbers.{hex8}
+use Rattle.st_base.specs.Numerals.{hex8}
 use Rattle.query_text.specs.Units.{unit_line, units_text}
 use Rattle.query_text.specs.Externals.{external_value}
 use Rattle.query_text.specs.Vars.{var_line}

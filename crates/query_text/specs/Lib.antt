@@ -1,6 +1,5 @@
 pub mod Words
 pub mod Queries
-pub mod Numbers
 pub mod Units
 pub mod Listed
 pub mod Externals

@@ -8,7 +8,7 @@ use Rattle.stab_units.specs.declared.unit.Unit.{Unit}
 use Rattle.scope_lines.specs.declared.scope.LineAt.{LineAt}
 use Rattle.scope_lines.specs.declared.scope.AddressOf.{AddressOf}
 use Rattle.scope_lines.specs.Lines.{name_or}
-use Rattle.query_text.specs.Numbers.{hex8}
+use Rattle.st_base.specs.Numerals.{hex8}
 
 -- ---- the line of an address
 

@@ -8,7 +8,7 @@ use Rattle.stab_units.specs.declared.unit.Unit.{Unit}
 use Rattle.scope_lines.specs.declared.scope.Block.{Block}
 use Rattle.scope_lines.specs.declared.scope.Scope.{Scope}
 use Rattle.scope_lines.specs.Lines.{text_of}
-use Rattle.query_text.specs.Numbers.{hex8}
+use Rattle.st_base.specs.Numerals.{hex8}
 use Rattle.query_text.specs.Vars.{Values, vars_text}
 
 -- ---- lines

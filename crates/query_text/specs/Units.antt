@@ -5,7 +5,7 @@ use Rattle.std.specs.List.{enumerate_from}
 use Rattle.st_base.specs.Shown.{shown}
 use Rattle.stab_units.specs.declared.unit.Unit.{Unit}
 use Rattle.stab_units.specs.declared.unit.HeaderFile.{HeaderFile}
-use Rattle.query_text.specs.Numbers.{hex8}
+use Rattle.st_base.specs.Numerals.{hex8}
 
 -- `U START END NAME` of the unit with this number
 unfoldable pub unit_line : ℕ → Unit → List ℕ

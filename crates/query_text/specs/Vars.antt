@@ -10,7 +10,7 @@ use Rattle.stab_grammar.specs.declared.tree.Symbol.{Symbol}
 use Rattle.stab_units.specs.declared.unit.Item.{Item}
 use Rattle.stab_units.specs.declared.unit.ItemText.{ItemText}
 use Rattle.stab_units.specs.declared.unit.ItemText.TheVariants as texts
-use Rattle.query_text.specs.Numbers.{hex8}
+use Rattle.st_base.specs.Numerals.{hex8}
 
 -- the value that a name of the source has for other objects, where it has one
 abbrev pub Values : Type 0

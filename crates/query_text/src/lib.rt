@@ -10,7 +10,6 @@ mod external;
 mod laws;
 mod line_text;
 mod listed;
-mod numbers;
 mod query;
 mod read;
 mod reply;

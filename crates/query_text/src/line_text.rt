@@ -4,10 +4,9 @@ ghost use Rattle.std.specs.Prelude.{◌≡◌, ◌++◌, IfOk, OnOk};
 ghost use Rattle.scope_lines.specs.Lines.{name_or};
 ghost use Rattle.query_text.specs.LineText as spec;
 
-use crate::numbers::{put_hex8, put_number};
 use crate::scope_text::item_name;
 use scope_lines::{AddressOf, LineAt};
-use st_base::{Memory, Text, show};
+use st_base::{Memory, Text, put_hex8, put_number, show};
 use stab_units::{Item, Unit};
 use std::alloc::Global;
 

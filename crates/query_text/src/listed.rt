@@ -6,8 +6,7 @@ ghost use Rattle.stab_grammar.specs.declared.tree.Key.{Key as KeyValue};
 ghost use Rattle.stab_grammar.specs.Surface.{ArePlaces};
 ghost use Rattle.query_text.specs.Listed as spec;
 
-use crate::numbers::put_number;
-use st_base::{Memory, Text, show};
+use st_base::{Memory, Text, put_number, show};
 use stab_grammar::{Key, Symbol, TypeTree, letters_of, print_placed_by};
 use stab_units::Unit;
 use std::alloc::Global;

@@ -6,10 +6,9 @@ ghost use Rattle.query_text.specs.Externals.{external_value, look};
 ghost use Rattle.query_text.specs.ScopeText as spec;
 
 use crate::external::by_name;
-use crate::numbers::{put_hex8, put_number};
 use crate::vars::put_vars;
 use scope_lines::{Block, Scope};
-use st_base::{List, Memory, Text, show};
+use st_base::{List, Memory, Text, put_hex8, put_number, show};
 use stab_units::{Item, ItemText, Unit};
 use std::alloc::Global;
 use std::collections::BTreeMap;

@@ -3,8 +3,7 @@
 ghost use Rattle.std.specs.Prelude.{◌≡◌, ◌++◌, IfOk, OnOk};
 ghost use Rattle.query_text.specs.Units as spec;
 
-use crate::numbers::{put_hex8, put_number};
-use st_base::{Memory, Text, show};
+use st_base::{Memory, Text, put_hex8, put_number, show};
 use stab_units::{HeaderFile, Unit};
 use std::alloc::Global;
 

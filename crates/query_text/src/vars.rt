@@ -6,8 +6,7 @@ ghost use Rattle.stab_grammar.specs.Spelling.{letters};
 ghost use Rattle.query_text.specs.Externals.{look};
 ghost use Rattle.query_text.specs.Vars as spec;
 
-use crate::numbers::put_hex8;
-use st_base::{List, Memory, Text, show};
+use st_base::{List, Memory, Text, put_hex8, show};
 use stab_grammar::{Descriptor, Symbol, letters_of, print_type};
 use stab_units::{Item, ItemText};
 use std::alloc::Global;

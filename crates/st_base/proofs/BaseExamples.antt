@@ -1,6 +1,7 @@
 -- Worked values of the shown form, of checks in order, and of words and kinds, by hand.
 use Rattle.std.proofs.Common.{◌≡◌, ℕ, [], ◌∷◌, refl}
 use Rattle.std.specs.Prelude.{codes, Ok, Err, true, false, Some, None}
+use Rattle.st_base.specs.Numerals.{hex2, hex4, hex8}
 use Rattle.st_base.specs.Shown.{shown}
 use Rattle.st_base.specs.Number.{first_word}
 use Rattle.st_base.specs.Stabs.{is_stab}
@@ -28,6 +29,20 @@ not_itself e = absurd cc
 
 two_dashes : shown (codes "--") ≡ codes "--"
 two_dashes = refl
+
+-- ---- hexadecimal digits
+
+two_digits : hex2 0x2a ≡ codes "2a"
+unfolding hex2
+two_digits = refl
+
+four_digits : hex4 0x207 ≡ codes "0207"
+unfolding hex4
+four_digits = refl
+
+eight_digits : hex8 0x12a0f ≡ codes "00012a0f"
+unfolding hex8
+eight_digits = refl
 
 -- ---- checks in order
 

@@ -1,5 +1,5 @@
 //! What every other crate stands on: growing texts and lists, faults and out of memory, numbers in
-//! either byte order at a place of a record, the shown form of a text, a counter of steps that only contracts
+//! either byte order at a place of a record, numbers as they are printed, the shown form of a text, a counter of steps that only contracts
 //! see, and the sizes, limits and numbers of faults that several crates name.
 //!
 //! The law that the layers above use: a field that is read is the number of its bytes, a field that is set is read
@@ -10,6 +10,7 @@ mod boxed;
 mod fault;
 mod layout;
 mod list;
+mod numerals;
 mod order;
 mod shown;
 mod sizes;
@@ -27,6 +28,7 @@ pub use fault::{
 };
 pub use layout::{Layout, field_laws, first_word, number_laws, one_spelling, set_first_word};
 pub use list::List;
+pub use numerals::{put_hex2, put_hex4, put_hex8, put_number};
 pub use order::Order;
 pub use shown::show;
 pub use sizes::{

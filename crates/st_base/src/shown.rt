@@ -2,14 +2,8 @@ ghost use Rattle.std.specs.Prelude.{◌≡◌, ◌++◌, ◌<◌, OnOk, OnErr, f
 ghost use Rattle.st_base.specs.Shown as spec;
 
 use crate::fault::Memory;
+use crate::numerals::hex_digit;
 use crate::text::Text;
-
-fn hex_digit(n: u8) -> u8
-    requires { n < 16 }
-    ensures { result ≡ spec.hex_digit n }
-{
-    if n < 10 { b'0' + n } else { b'a' - 10 + n }
-}
 
 fn show_escaped(out: &mut Text, byte: u8) -> Result<(), Memory>
     ensures ok { OnOk result (out.new ≡ out.old ++ spec.escaped byte) }
