@@ -9,4 +9,5 @@ pub mod Together
 pub mod SpanLemmas
 pub mod ReadingLemmas
 pub mod UnitLemmas
+pub mod FewLemmas
 pub mod OneLaws

@@ -1,6 +1,6 @@
 //! What the definitions of outlines and units say of any entries.
 
-ghost use Rattle.std.specs.Prelude.{◌≡◌, ◌⊎◌, ℕ, List, Option, MatchOption};
+ghost use Rattle.std.specs.Prelude.{◌≡◌, ◌≤◌, ◌⊎◌, ℕ, List, Option, MatchOption, length};
 ghost use Rattle.st_base.specs.declared.fault.Fault.{Fault};
 ghost use Rattle.nlist_codec.specs.declared.named.Named.{Named};
 ghost use Rattle.stab_units.specs.declared.outline_types.Marks.{Marks};
@@ -39,6 +39,11 @@ pub fn one_units()
 {
     one_symbol();
 }
+
+/// A list of entries has no more units than entries.
+pub fn few_units()
+    ensures { (text_end : ℕ) (entries : List Named) (units : List Unit) → AreUnits text_end entries units → length units ≤ length entries }
+{}
 
 /// What closes a header range, and a block, is the first entry behind it up to which ends have caught up with begins, before the next
 /// N_SO; and nothing closes it where there is no such entry.
