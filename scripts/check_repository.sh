@@ -1,5 +1,5 @@
 #!/bin/sh
-# Checks of our own, after the gate's: the committed object is what its script makes, no text names a path of the machine that it
+# Checks of our own, after the gate's: the committed objects are what their script makes, no text names a path of the machine that it
 # was written on, and the built program ends with the status and the text of each case.
 cd "$(dirname "$0")/.." || exit 1
 failed=0
@@ -20,8 +20,13 @@ ends() {
     [ "$printed" = "$text" ] || complain "stabs $*: printed '$printed', not '$text'"
 }
 
-scripts/make_a_o.py | cmp -s - crates/stabs_tool/data/a.o ||
-    complain "crates/stabs_tool/data/a.o is not what scripts/make_a_o.py makes"
+made=$(mktemp -d)
+scripts/make_objects.py "$made"
+for name in a.o a_big.o; do
+    cmp -s "$made/$name" "crates/stabs_tool/data/$name" ||
+        complain "crates/stabs_tool/data/$name is not what scripts/make_objects.py makes"
+done
+rm -r "$made"
 
 if git grep -nIE '/(work|tmp|opt|root|home)/' -- . ':!scripts/check_repository.sh' >&2; then
     complain "a committed file names a path of a machine"
@@ -36,10 +41,36 @@ ends . 5 'absent missing.o' query missing.o tag 0 list
 ends . 6 'read fault docs' query docs tag 0 list
 ends . 3 'refused README.md 1 0 0' query README.md tag 0 list
 ends crates/stabs_tool/data 0 none query a.o tag 0 lost
-ends crates/stabs_tool/data 0 '3
+
+# each question, on the object in either byte order
+for name in a.o a_big.o; do
+    asked() {
+        text=$1
+        shift
+        ends crates/stabs_tool/data 0 "$text" query "$name" "$@"
+    }
+    asked '0 00000000 00000008 /w/a.c' units
+    asked '0 /w/a.c
+1 stdio.h
+2 list.h' files 0
+    asked '3
 0 T list s8val:#1,0,32;next:#2,32,32;;
 1 t int r#1;-2147483648;2147483647;
-2 - - *#0' query a.o tag 0 list
+2 - - *#0' tag 0 list
+    asked '2
+0 t size_t #1
+1 t int r#1;-2147483648;2147483647;' type 0 size_t
+    asked '1
+0 - - undefined' number 0 2 9
+    asked 'unit 0 /w/a.c
+function main 00000000
+var p argc (0,1) 00000008
+block 00000000 00000008
+var - head (0,2)=*(2,1) fffffffc
+var G total (0,1) -' scope 0x5
+    asked '/w/a.c 5 00000004' line 0x6
+    asked '0 00000004' addresses /w/a.c 5
+done
 
 # a file of one byte more than the limit
 folder=$(mktemp -d)

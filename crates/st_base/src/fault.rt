@@ -108,8 +108,6 @@ pub const EMPTY: u16 = 95;
 pub const NO_HEADER: u16 = 100;
 /// A mark of an excluded header stands for more than one header. The place is the entry's number.
 pub const AMBIGUOUS: u16 = 101;
-/// The file is lawful, but this program does not read files of its kind yet. Place and within are 0.
-pub const UNBUILT: u16 = 200;
 
 /// Out of memory.
 #[derive(Clone, Copy, Debug, Drop, PartialEq, Eq)]

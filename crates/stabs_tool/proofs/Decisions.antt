@@ -1,5 +1,5 @@
 -- What was replied is decided on, with its causes: for words that are no command, and for a command by what its inputs came to.
-use Rattle.std.proofs.Common.{◌≡◌, ◌≢◌, ℕ, zero, suc, ◌⊎◌, inl, inr, Bool, true, false, List, [], ◌∷◌, Option, Some, None, Result, Ok, Err, refl, sym, ap, subst, ◌∙◌}
+use Rattle.std.proofs.Common.{◌≡◌, ◌≢◌, ℕ, ◌⊎◌, inl, inr, Bool, true, false, List, [], ◌∷◌, Option, Some, None, Result, Ok, Err, refl, sym, ap, subst, ◌∙◌}
 use Rattle.std.specs.Prelude.{◌==◌, IfOk, IfSome}
 use Rattle.std.specs.List.{list_any}
 use Rattle.std.proofs.lemmas.Bool.{true≢false}
@@ -8,11 +8,13 @@ use Rattle.outside.specs.Causes.{Contents}
 use Rattle.st_base.specs.Number.{IsBytes}
 use Rattle.st_base.specs.declared.fault.Fault.{Fault}
 use Rattle.st_base.specs.declared.sizes.TheConstants.{FILE_LIMIT}
-use Rattle.aout_object.specs.Objects.{ObjectSpells}
+use Rattle.nlist_codec.specs.declared.named.Named.{Named}
+use Rattle.aout_object.specs.Objects.{ObjectSpells, named_of}
+use Rattle.stab_units.specs.Worlds.{UnitsFault}
 use Rattle.aout_object.specs.Objects.{Contents as Object}
 use Rattle.aout_object.specs.Checks.{FileFault}
-use Rattle.stabs_tool.specs.declared.command.Query.{Query}
-use Rattle.stabs_tool.specs.declared.command.Query.TheVariants.{TagNamed}
+use Rattle.type_graph.specs.declared.world.World.{World}
+use Rattle.query_text.specs.declared.query.Query.{Query}
 use Rattle.stabs_tool.specs.declared.command.Command.{Command}
 use Rattle.stabs_tool.specs.declared.command.Command.TheVariants as commands
 use Rattle.stabs_tool.specs.declared.command.Asked.{Asked}
@@ -23,14 +25,13 @@ use Rattle.stabs_tool.specs.declared.inputs.Inputs.TheVariants.{All, Fault as Fa
 use Rattle.stabs_tool.specs.declared.outcome.Content.{Content}
 use Rattle.stabs_tool.specs.declared.outcome.Outcome.{Outcome}
 use Rattle.stabs_tool.specs.declared.outcome.TheConstants.{DONE, USAGE, REFUSED, ABSENT, READ_FAULT, WRITE_FAULT, NO_MEMORY, LIMIT}
-use Rattle.stabs_tool.specs.declared.types.unit.Unit.{Unit as UnitOf}
 use Rattle.stabs_tool.specs.Commands.{inputs_of, most_of, IsRead, IsWritten, IsWrong}
 use Rattle.stabs_tool.specs.Words.{first}
-use Rattle.stabs_tool.specs.Outcomes.{printed, usage, absent, read_fault, limit, refused, nothing, is_status}
+use Rattle.stabs_tool.specs.Outcomes.{printed, usage, absent, read_fault, limit, refused, is_status}
 use Rattle.stabs_tool.specs.Causes.{FilesSeen}
 use Rattle.stabs_tool.specs.Inputs.{loaded_inputs, HasCause, IsFailed, IsPlaced, name_at}
 use Rattle.stabs_tool.specs.Deciding.{Decided}
-use Rattle.stabs_tool.specs.Replies.{RepliesOnTag, RepliesInUnit, RepliesOnUnit, RepliesOnObject, RepliesOnBytes, Answers, RepliesTo, Means}
+use Rattle.stabs_tool.specs.Replies.{text_end, WorldFault, RepliesOnWorld, RepliesOnObject, RepliesOnBytes, Answers, RepliesTo, Means}
 
 -- ---- outcomes of one line
 
@@ -61,10 +62,6 @@ prints_limit most = prints_of LIMIT _
 pub prints_refused : (name : List ℕ) (f : Fault) → Prints REFUSED (refused name f)
 unfolding refused
 prints_refused name f = prints_of REFUSED _
-
-pub prints_nothing : Prints DONE nothing
-unfolding nothing
-prints_nothing = prints_of DONE _
 
 -- ---- outcomes that need no cause
 
@@ -111,22 +108,14 @@ plain_limit : (o : Outcome) → Prints LIMIT o → IsPlain o
 unfolding is_plain
 plain_limit o p = plain_of LIMIT o p refl refl
 
-on_tag_plain : (unit : UnitOf) (tag : List ℕ) (o : Outcome) → RepliesOnTag unit tag o → IsPlain o
-on_tag_plain unit tag o (inl h) = subst IsPlain (sym h.1) (plain_done nothing prints_nothing)
-on_tag_plain unit tag o (inr h) = subst IsPlain (sym h.4) (plain_done (printed DONE _) (prints_of DONE _))
-
-in_unit_plain : (unit : UnitOf) (number : ℕ) (tag : List ℕ) (o : Outcome) → RepliesInUnit unit number tag o → IsPlain o
-in_unit_plain unit zero tag o h = on_tag_plain unit tag o h
-in_unit_plain unit (suc number) tag o h = subst IsPlain (sym h) (plain_done nothing prints_nothing)
-
-on_unit_plain : (query : Query) (unit : UnitOf) (o : Outcome) → RepliesOnUnit query unit o → IsPlain o
-on_unit_plain (TagNamed number tag) unit o h = in_unit_plain unit number tag o h
+on_world_plain : (query : Query) (world : World) (o : Outcome) → RepliesOnWorld query world o → IsPlain o
+on_world_plain query world o h = subst IsPlain (sym h.2) (plain_done (printed DONE _) (prints_of DONE _))
 
 refused_plain : (name : List ℕ) (f : Fault) (o : Outcome) → o ≡ refused name f → IsPlain o
 refused_plain name f o h = subst IsPlain (sym h) (plain_refused (refused name f) (prints_refused name f))
 
 bytes_plain : (name : List ℕ) (query : Query) (bytes : List ℕ) (o : Outcome) → RepliesOnBytes name query bytes o → IsPlain o
-bytes_plain name query bytes o (are, inl (object, spells, inl h)) = on_unit_plain query h.0 o h.2
+bytes_plain name query bytes o (are, inl (object, spells, inl h)) = on_world_plain query h.0 o h.2
 bytes_plain name query bytes o (are, inl (object, spells, inr h)) = refused_plain name h.0 o h.2
 bytes_plain name query bytes o (are, inr h) = refused_plain name h.0 o h.2
 
@@ -263,6 +252,18 @@ placed_of held before now last loaded (Faulty at cause.Failed) h = h.0
 placed_of held before now last loaded TooMuch h = tt
 
 -- ---- what is replied on the bytes of a file
+
+-- the fault of entries, where text ends at an address, is that of the object whose entries they are and whose text ends there
+pub world_fault : (object : Object) (end : ℕ) (entries : List Named) (f : Fault) → end ≡ text_end object → entries ≡ named_of object
+    → UnitsFault end entries f → WorldFault object f
+world_fault object end entries f same are fault =
+    subst (λ (z : List Named). UnitsFault (text_end object) z f) are (subst (λ (z : ℕ). UnitsFault z entries f) same fault)
+
+-- the refusal of an object
+pub by_world_fault : {E : Type 0} (name : List ℕ) (query : Query) (object : Object) (f : Fault) (res : Result Outcome E)
+    → WorldFault object f → IfOk res (λ o. o ≡ refused name f) → IfOk res (RepliesOnObject name query object)
+by_world_fault name query object f (Err e) is said = tt
+by_world_fault name query object f (Ok o) is said = inr ((f, is, said))
 
 -- the reply on the object that the bytes spell
 pub by_object : {E : Type 0} (name : List ℕ) (query : Query) (bytes : List ℕ) (object : Object) (res : Result Outcome E)

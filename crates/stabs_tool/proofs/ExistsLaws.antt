@@ -7,14 +7,16 @@ use Rattle.outside.specs.Causes.{Contents}
 use Rattle.st_base.specs.Number.{IsBytes}
 use Rattle.st_base.specs.declared.fault.Fault.{Fault}
 use Rattle.st_base.specs.declared.sizes.TheConstants.{FILE_LIMIT}
-use Rattle.aout_object.specs.Objects.{ObjectSpells}
+use Rattle.aout_object.specs.Objects.{ObjectSpells, named_of}
 use Rattle.aout_object.specs.Objects.{Contents as Object}
 use Rattle.aout_object.specs.Checks.{FileFault}
-use Rattle.stab_grammar.specs.declared.tree.Key.{Key}
-use Rattle.stab_grammar.specs.declared.tree.Symbol.{Symbol}
-use Rattle.stab_grammar.specs.StringFaults.{IsSpelling, IsStringFault}
-use Rattle.stabs_tool.specs.declared.command.Query.{Query}
-use Rattle.stabs_tool.specs.declared.command.Query.TheVariants.{TagNamed}
+use Rattle.nlist_codec.specs.declared.named.Named.{Named}
+use Rattle.stab_units.specs.declared.unit.Unit.{Unit as UnitOf}
+use Rattle.stab_units.specs.Worlds.{AreUnits, UnitsFault}
+use Rattle.type_graph.specs.declared.world.World.{World}
+use Rattle.type_graph.specs.Worlds.{IsWorldOf, externals_of}
+use Rattle.query_text.specs.declared.query.Query.{Query}
+use Rattle.query_text.specs.Replies as replies
 use Rattle.stabs_tool.specs.declared.command.Command.{Command}
 use Rattle.stabs_tool.specs.declared.command.Command.TheVariants as commands
 use Rattle.stabs_tool.specs.declared.command.Asked.{Asked}
@@ -24,17 +26,11 @@ use Rattle.stabs_tool.specs.declared.inputs.Inputs.{Inputs}
 use Rattle.stabs_tool.specs.declared.inputs.Inputs.TheVariants.{All, Fault as Faulty, TooMuch}
 use Rattle.stabs_tool.specs.declared.outcome.Outcome.{Outcome}
 use Rattle.stabs_tool.specs.declared.outcome.TheConstants.{DONE}
-use Rattle.stabs_tool.specs.declared.types.unit.Unit.{Unit as UnitOf}
-use Rattle.stabs_tool.specs.Units.{tag_of}
-use Rattle.stabs_tool.specs.Listings.{IsListing}
-use Rattle.stabs_tool.specs.Listed.{listing_text}
-use Rattle.stabs_tool.specs.Readings.{strings_of, AreUnit, AreRefused}
 use Rattle.stabs_tool.specs.Words.{first}
 use Rattle.stabs_tool.specs.Commands.{asked, inputs_of, most_of}
 use Rattle.stabs_tool.specs.Inputs.{loaded_inputs, inputs_from, after_content, name_at}
-use Rattle.stabs_tool.specs.Outcomes.{printed, usage, absent, read_fault, limit, refused, nothing}
-use Rattle.stabs_tool.specs.Replies.{RepliesOnTag, RepliesInUnit, RepliesOnUnit, RepliesOnObject, RepliesOnBytes, Answers, RepliesTo, Means, IsOutcome, AreBytes}
-use Rattle.stabs_tool.proofs.ReadingLemmas.{a_reading}
+use Rattle.stabs_tool.specs.Outcomes.{printed, usage, absent, read_fault, limit, refused}
+use Rattle.stabs_tool.specs.Replies.{text_end, RepliesOnWorld, RepliesOnObject, RepliesOnBytes, Answers, RepliesTo, Means, IsOutcome, AreBytes}
 
 -- ---- what is loaded is bytes
 
@@ -78,27 +74,21 @@ loaded_bytes m are most total texts at (name ∷ names) all =
 
 -- ---- an outcome
 
-module _ (some : (text : List ℕ) → ((s : Symbol) × IsSpelling s text) ⊎ ((f : Fault) × IsStringFault text f))
+module _ (some : (end : ℕ) (entries : List Named) → ((units : List UnitOf) × AreUnits end entries units) ⊎ ((f : Fault) × UnitsFault end entries f))
     (object_or_fault : (bytes : List ℕ) → IsBytes bytes → ((object : Object) × ObjectSpells object bytes) ⊎ ((f : Fault) × FileFault bytes f))
-    (a_listing : (unit : UnitOf) (start : Key) → (keys : List Key) × IsListing unit start keys) where
-  on_tag : (unit : UnitOf) (tag : List ℕ) → (o : Outcome) × RepliesOnTag unit tag o
-  on_tag unit tag = by_tag (tag_of unit tag) refl where
-    by_tag : (found : Option Key) → tag_of unit tag ≡ found → (o : Outcome) × RepliesOnTag unit tag o
-    by_tag None e = (nothing, inl ((e, refl)))
-    by_tag (Some key) e = let l = a_listing unit key in (printed DONE (listing_text unit l.0), inr ((key, l.0, e, l.1, refl)))
-
-  in_unit : (unit : UnitOf) (number : ℕ) (tag : List ℕ) → (o : Outcome) × RepliesInUnit unit number tag o
-  in_unit unit zero tag = on_tag unit tag
-  in_unit unit (suc number) tag = (nothing, refl)
-
-  on_unit : (query : Query) (unit : UnitOf) → (o : Outcome) × RepliesOnUnit query unit o
-  on_unit (TagNamed number tag) unit = in_unit unit number tag
+    (a_reply : (world : World) (query : Query) → (text : List ℕ) × replies.Answers world query text) where
+  on_world : (query : Query) (world : World) → (o : Outcome) × RepliesOnWorld query world o
+  on_world query world = let r = a_reply world query in (printed DONE r.0, (r.0, r.1, refl))
 
   on_object : (name : List ℕ) (query : Query) (object : Object) → (o : Outcome) × RepliesOnObject name query object o
-  on_object name query object = by_reading (a_reading some (strings_of object)) where
-    by_reading : ((unit : UnitOf) × AreUnit (strings_of object) unit) ⊎ ((f : Fault) × AreRefused (strings_of object) f) → (o : Outcome) × RepliesOnObject name query object o
-    by_reading (inl u) = let r = on_unit query u.0 in (r.0, inl ((u.0, u.1, r.1)))
-    by_reading (inr f) = (refused name f.0, inr ((f.0, f.1, refl)))
+  on_object name query object = by_units (some (text_end object) (named_of object)) where
+    by_units : ((units : List UnitOf) × AreUnits (text_end object) (named_of object) units) ⊎ ((f : Fault) × UnitsFault (text_end object) (named_of object) f)
+        → (o : Outcome) × RepliesOnObject name query object o
+    by_units (inl u) =
+        let world : World = record { units = u.0; externals = externals_of (named_of object) } in
+        let r = on_world query world in
+        (r.0, inl ((world, record { units = u.1; externals = refl }, r.1)))
+    by_units (inr f) = (refused name f.0, inr ((f.0, f.1, refl)))
 
   on_bytes : (name : List ℕ) (query : Query) (bytes : List ℕ) → IsBytes bytes → (o : Outcome) × RepliesOnBytes name query bytes o
   on_bytes name query bytes are = by_object (object_or_fault bytes are) where
@@ -109,17 +99,17 @@ module _ (some : (text : List ℕ) → ((s : Symbol) × IsSpelling s text) ⊎ (
   an_answer : (command : Command) (texts : List (List ℕ)) → AllBytes texts → (o : Outcome) × Answers command texts o
   an_answer (commands.Query file query) texts all = on_bytes file query (first texts) (first_bytes texts all)
 
-  a_reply : (command : Command) (inputs : Inputs) → HasBytes inputs → (o : Outcome) × RepliesTo command inputs o
-  a_reply command (All texts) all = an_answer command texts all
-  a_reply command (Faulty at cause.Absent) all = (absent (name_at (inputs_of command) at), refl)
-  a_reply command (Faulty at cause.Long) all = (limit (most_of command), refl)
-  a_reply command (Faulty at cause.Failed) all = (read_fault (name_at (inputs_of command) at), refl)
-  a_reply command TooMuch all = (limit FILE_LIMIT, refl)
+  a_result : (command : Command) (inputs : Inputs) → HasBytes inputs → (o : Outcome) × RepliesTo command inputs o
+  a_result command (All texts) all = an_answer command texts all
+  a_result command (Faulty at cause.Absent) all = (absent (name_at (inputs_of command) at), refl)
+  a_result command (Faulty at cause.Long) all = (limit (most_of command), refl)
+  a_result command (Faulty at cause.Failed) all = (read_fault (name_at (inputs_of command) at), refl)
+  a_result command TooMuch all = (limit FILE_LIMIT, refl)
 
   a_meaning : (a : Asked) (m : Contents) → AreBytes m → (o : Outcome) × Means a m o
   a_meaning (asks.Wrong at) m are = (usage at, refl)
   a_meaning (asks.Command command) m are =
-      a_reply command (loaded_inputs m (most_of command) FILE_LIMIT (inputs_of command)) (loaded_bytes m are (most_of command) FILE_LIMIT [] 0 (inputs_of command) tt)
+      a_result command (loaded_inputs m (most_of command) FILE_LIMIT (inputs_of command)) (loaded_bytes m are (most_of command) FILE_LIMIT [] 0 (inputs_of command) tt)
 
   -- words have an outcome
   pub outcome_exists : (words : List (List ℕ)) (m : Contents) → AreBytes m → (o : Outcome) × IsOutcome words m o

@@ -7,7 +7,7 @@ use Rattle.std.proofs.lemmas.Fmt.{decimal_digit, decimal_step}
 use Rattle.outside.specs.Causes.{Contents}
 use Rattle.st_base.specs.Faults.{fault_at}
 use Rattle.st_base.specs.declared.fault.TheConstants.{TRUNCATED}
-use Rattle.stabs_tool.specs.declared.command.Query.TheVariants.{TagNamed}
+use Rattle.query_text.specs.declared.query.Query.TheVariants.{TagNamed}
 use Rattle.stabs_tool.specs.declared.command.Command.TheVariants as commands
 use Rattle.stabs_tool.specs.declared.command.Asked.{Asked}
 use Rattle.stabs_tool.specs.declared.command.Asked.TheVariants as asks
@@ -15,7 +15,7 @@ use Rattle.stabs_tool.specs.declared.inputs.Cause.TheVariants as cause
 use Rattle.stabs_tool.specs.declared.inputs.Inputs.TheVariants.{All, Fault, TooMuch}
 use Rattle.stabs_tool.specs.declared.outcome.Outcome.{Outcome}
 use Rattle.stabs_tool.specs.Commands.{asked, IsRead, IsWritten, IsWrong}
-use Rattle.stabs_tool.specs.Outcomes.{printed, usage, absent, limit, refused, nothing, is_status}
+use Rattle.stabs_tool.specs.Outcomes.{printed, usage, absent, limit, refused, is_status}
 use Rattle.stabs_tool.specs.Causes.{seen, Gained, GainedFront, Lacks}
 use Rattle.stabs_tool.specs.Inputs.{loaded_inputs}
 use Rattle.stabs_tool.specs.Promise.{Promise}
@@ -51,10 +51,6 @@ a_refusal = rw (decimal_digit 5 (lit< tt), in_digits, decimal_digit 0 (lit< tt))
 a_limit : limit 172 ≡ printed 9 (codes "limit 172\n")
 unfolding limit
 a_limit = rw in_digits refl
-
-no_lines : nothing ≡ printed 0 (codes "none\n")
-unfolding nothing
-no_lines = refl
 
 -- ---- inputs
 
@@ -120,8 +116,8 @@ not_gained e = absurd cc
 no_words : IsOutcome [] files (usage 0)
 no_words = refl
 
-not_none : IsOutcome [] files nothing → ⊥
-unfolding usage nothing
+not_none : IsOutcome [] files (printed 0 (codes "none\n")) → ⊥
+unfolding usage
 not_none e = let status : ◌≡◌ {A = ℕ} 0 2 = ap (λ (o : Outcome). o.status) e in absurd cc
 
 -- a question about the tag `t` of a file

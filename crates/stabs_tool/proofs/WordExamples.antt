@@ -4,32 +4,13 @@ use Rattle.std.specs.Prelude.{codes, nat_lt, slice_index}
 use Rattle.std.specs.Str.{is_utf8}
 use Rattle.std.proofs.lemmas.Bool.{ltb-true, and_parts}
 use Rattle.std.proofs.lemmas.Str.{IsUtf8-from_ascii, is_utf8-from_IsUtf8}
-use Rattle.stabs_tool.specs.declared.command.Query.TheVariants.{TagNamed}
+use Rattle.query_text.specs.declared.query.Query.TheVariants.{TagNamed, Units}
+use Rattle.query_text.specs.Queries.{form_from}
 use Rattle.stabs_tool.specs.declared.command.Command.TheVariants as commands
 use Rattle.stabs_tool.specs.declared.command.Asked.TheVariants as asks
 use Rattle.readers.specs.Words.{number_at, digits_on}
-use Rattle.stabs_tool.specs.Words.{is_text, is_number, spelled_number}
+use Rattle.stabs_tool.specs.Words.{is_text}
 use Rattle.stabs_tool.specs.Commands.{asked, inputs_of}
-
--- ---- numbers
-
-seven : spelled_number (codes "7") ≡ Some 7
-unfolding number_at digits_on
-seven = refl
-
--- a leading zero spells no number
-leading_zero : spelled_number (codes "07") ≡ None
-unfolding number_at digits_on
-leading_zero = refl
-
--- 9 is a number up to 9, and 10 is none
-nine : is_number 9 (codes "9") ≡ true
-unfolding number_at digits_on
-nine = refl
-
-ten : is_number 9 (codes "10") ≡ false
-unfolding number_at digits_on
-ten = refl
 
 -- ---- texts of ASCII are UTF-8
 
@@ -59,6 +40,10 @@ tag_text : is_utf8 (codes "tag") ≡ true
 unfolding all_ascii
 tag_text = text (codes "tag") refl
 
+units_text : is_utf8 (codes "units") ≡ true
+unfolding all_ascii
+units_text = text (codes "units") refl
+
 unit_text : is_utf8 (codes "0") ≡ true
 unfolding all_ascii
 unit_text = text (codes "0") refl
@@ -77,9 +62,14 @@ name_text = text (codes "list") refl
 abbrev line : List ℕ → List (List ℕ)
 line unit = codes "query" ∷ codes "a.o" ∷ codes "tag" ∷ unit ∷ codes "list" ∷ []
 
+-- all units of the file `a.o`
+all_units : asked (codes "query" ∷ codes "a.o" ∷ codes "units" ∷ []) ≡ asks.Command (commands.Query (codes "a.o") Units)
+unfolding form_from
+all_units = rw (query_text, file_text, units_text) refl
+
 -- the tag `list` of unit 0 of the file `a.o`
 a_query : asked (line (codes "0")) ≡ asks.Command (commands.Query (codes "a.o") (TagNamed 0 (codes "list")))
-unfolding number_at digits_on
+unfolding form_from number_at digits_on
 a_query = rw (query_text, file_text, tag_text, unit_text, name_text) refl
 
 -- its one input
@@ -88,18 +78,18 @@ an_input = refl
 
 -- a leading zero is told at its place, and so are a word that is missing and one too many
 a_wrong_number : asked (line (codes "00")) ≡ asks.Wrong 3
-unfolding number_at digits_on
+unfolding form_from number_at digits_on
 a_wrong_number = rw (query_text, file_text, tag_text, zeros_text) refl
 
 nothing_asked : asked [] ≡ asks.Wrong 0
 nothing_asked = refl
 
 a_missing_name : asked (codes "query" ∷ codes "a.o" ∷ codes "tag" ∷ codes "0" ∷ []) ≡ asks.Wrong 4
-unfolding number_at digits_on
+unfolding form_from number_at digits_on
 a_missing_name = rw (query_text, file_text, tag_text, unit_text) refl
 
 a_word_too_many : asked (codes "query" ∷ codes "a.o" ∷ codes "tag" ∷ codes "0" ∷ codes "list" ∷ codes "list" ∷ []) ≡ asks.Wrong 5
-unfolding number_at digits_on
+unfolding form_from number_at digits_on
 a_word_too_many = rw (query_text, file_text, tag_text, unit_text, name_text) refl
 
 -- a word that is not UTF-8 is wrong, even as the name of a file

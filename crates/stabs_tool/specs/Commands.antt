@@ -1,51 +1,64 @@
 -- The commands: the words of each, the files that it reads and the one that it stores. This is this project's own.
-use Rattle.std.specs.Prelude.{◌≡◌, ℕ, max, List, [], ◌∷◌, Option, Some, None, Contains}
+use Rattle.std.specs.Prelude.{◌≡◌, ℕ, ◌+◌, max, List, [], ◌∷◌, length, drop, Option, Some, None, Contains, Result, Ok, Err}
 use Rattle.st_base.specs.declared.sizes.TheConstants.{FILE_LIMIT}
-use Rattle.stabs_tool.specs.declared.words.TheConstants.{GREATEST_NUMBER}
+use Rattle.query_text.specs.declared.query.Query.{Query}
+use Rattle.query_text.specs.Queries as queries
 use Rattle.stabs_tool.specs.declared.words.Want.{Want}
-use Rattle.stabs_tool.specs.declared.words.Want.TheVariants.{This, Any, Number}
+use Rattle.stabs_tool.specs.declared.words.Want.TheVariants.{This, Any}
 use Rattle.stabs_tool.specs.declared.words.Keyword.TheVariants as keywords
 use Rattle.stabs_tool.specs.declared.words.Operand.TheVariants as operands
 use Rattle.stabs_tool.specs.declared.command.Form.{Form}
 use Rattle.stabs_tool.specs.declared.command.Form.TheVariants as forms
-use Rattle.stabs_tool.specs.declared.command.Query.TheVariants.{TagNamed}
 use Rattle.stabs_tool.specs.declared.command.Command.{Command}
 use Rattle.stabs_tool.specs.declared.command.Command.TheVariants as commands
 use Rattle.stabs_tool.specs.declared.command.Asked.{Asked}
 use Rattle.stabs_tool.specs.declared.command.Asked.TheVariants as asks
-use Rattle.stabs_tool.specs.Words.{number_of, word_of, wrong_place}
+use Rattle.stabs_tool.specs.Words.{word_of, wrong_front}
 
 -- ---- the forms of command lines
 
--- what the places of a form want
+-- what the places of a form want, before what else follows
 abbrev pub places_of : Form → List Want
--- `query FILE tag U NAME`
-places_of forms.TagNamed =
-    This keywords.Query ∷ Any operands.File ∷ This keywords.Tag ∷ Number operands.Unit GREATEST_NUMBER ∷ Any operands.Name ∷ []
+-- `query FILE`, and the words of a query
+places_of forms.Query = This keywords.Query ∷ Any operands.File ∷ []
 
 -- all forms
 abbrev pub all_forms : List Form
-all_forms = forms.TagNamed ∷ []
+all_forms = forms.Query ∷ []
 
--- the command of words that are those of a form
-abbrev pub command_of : Form → List (List ℕ) → Command
-command_of forms.TagNamed words =
-    let places : List Want = places_of forms.TagNamed in
-    commands.Query (word_of operands.File places words)
-    (TagNamed (number_of (word_of operands.Unit places words)) (word_of operands.Name places words))
+-- the words that follow those of the places
+abbrev pub rest_of : Form → List (List ℕ) → List (List ℕ)
+rest_of form words = drop (length (places_of form)) words
 
 -- ---- what words ask
 
+-- the question on a file, or the place of the wrong word of the query
+abbrev pub with_query : List ℕ → Result Query ℕ → Asked
+with_query file (Ok query) = asks.Command (commands.Query file query)
+with_query file (Err at) = asks.Wrong (length (places_of forms.Query) + at)
+
+-- the command of words whose front is what the places want; or the place of the first wrong word behind it
+abbrev pub command_of : Form → List (List ℕ) → Asked
+command_of forms.Query words = with_query (word_of operands.File (places_of forms.Query) words) (queries.asked (rest_of forms.Query words))
+
+-- the command, unless a place is wrong
+abbrev pub unless_wrong : Option ℕ → Asked → Asked
+unless_wrong None asked = asked
+unless_wrong (Some at) asked = asks.Wrong at
+
+-- what the words ask in a form: its command, or the place up to which they are of this form
+abbrev pub asked_in : Form → List (List ℕ) → Asked
+asked_in form words = unless_wrong (wrong_front (places_of form) words) (command_of form words)
+
 -- what a form makes of the words: its command where they are its words; else the other forms, the furthest place being kept
-abbrev pub go_on : Form → List (List ℕ) → ℕ → (ℕ → Asked) → Option ℕ → Asked
-go_on form words furthest others None = asks.Command (command_of form words)
-go_on form words furthest others (Some at) = others (max furthest at)
+abbrev pub go_on : ℕ → (ℕ → Asked) → Asked → Asked
+go_on furthest others (asks.Command command) = asks.Command command
+go_on furthest others (asks.Wrong at) = others (max furthest at)
 
 -- what these forms make of the words, `furthest` being the place up to which a form before went along with them
 abbrev pub asked_from : List Form → List (List ℕ) → ℕ → Asked
 asked_from [] words furthest = asks.Wrong furthest
-asked_from (form ∷ others) words furthest =
-    go_on form words furthest (asked_from others words) (wrong_place (places_of form) words)
+asked_from (form ∷ others) words furthest = go_on furthest (asked_from others words) (asked_in form words)
 
 -- what the words ask: the command of the form that they are of; else the wrong place, which is the furthest that a form tells
 abbrev pub asked : List (List ℕ) → Asked

@@ -1,9 +1,3 @@
-pub mod Units
-pub mod Listings
-pub mod KeyLists
-pub mod Indexes
-pub mod Readings
-pub mod Listed
 pub mod Words
 pub mod Commands
 pub mod Outcomes

@@ -53,10 +53,6 @@ fault_text f = decimal f.number ++ 32 ∷ decimal f.place ++ 32 ∷ decimal f.wi
 unfoldable pub refused : List ℕ → Fault → Outcome
 refused name f = line REFUSED (codes "refused " ++ shown name ++ 32 ∷ fault_text f)
 
--- `none`: a reply without lines
-unfoldable pub nothing : Outcome
-nothing = line DONE (codes "none")
-
 -- the line that is printed where storing failed
 abbrev pub write_fault_text : List ℕ
 write_fault_text = codes "write fault\n"

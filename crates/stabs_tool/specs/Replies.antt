@@ -1,16 +1,18 @@
 -- The outcome of words over files that tell their contents and do not fail. This is this project's own.
-use Rattle.std.specs.Prelude.{◌≡◌, ◌⊎◌, ℕ, zero, suc, List, Some, None}
+use Rattle.std.specs.Prelude.{◌≡◌, ◌⊎◌, ◌+◌, ℕ, List, length, Some}
 use Rattle.std.specs.FinMap.{get}
 use Rattle.outside.specs.Causes.{Contents}
 use Rattle.st_base.specs.Number.{IsBytes}
 use Rattle.st_base.specs.declared.fault.Fault.{Fault}
 use Rattle.st_base.specs.declared.sizes.TheConstants.{FILE_LIMIT}
-use Rattle.stab_grammar.specs.declared.tree.Key.{Key}
-use Rattle.aout_object.specs.Objects.{ObjectSpells}
+use Rattle.aout_object.specs.Objects.{ObjectSpells, named_of}
 use Rattle.aout_object.specs.Objects.{Contents as Object}
 use Rattle.aout_object.specs.Checks.{FileFault}
-use Rattle.stabs_tool.specs.declared.command.Query.{Query}
-use Rattle.stabs_tool.specs.declared.command.Query.TheVariants.{TagNamed}
+use Rattle.stab_units.specs.Worlds.{UnitsFault}
+use Rattle.type_graph.specs.declared.world.World.{World}
+use Rattle.type_graph.specs.Worlds.{IsWorldOf}
+use Rattle.query_text.specs.declared.query.Query.{Query}
+use Rattle.query_text.specs.Replies as replies
 use Rattle.stabs_tool.specs.declared.command.Command.{Command}
 use Rattle.stabs_tool.specs.declared.command.Command.TheVariants as commands
 use Rattle.stabs_tool.specs.declared.command.Asked.{Asked}
@@ -20,36 +22,35 @@ use Rattle.stabs_tool.specs.declared.inputs.Inputs.{Inputs}
 use Rattle.stabs_tool.specs.declared.inputs.Inputs.TheVariants.{All, Fault as Faulty, TooMuch}
 use Rattle.stabs_tool.specs.declared.outcome.Outcome.{Outcome}
 use Rattle.stabs_tool.specs.declared.outcome.TheConstants.{DONE}
-use Rattle.stabs_tool.specs.declared.types.unit.Unit.{Unit}
-use Rattle.stabs_tool.specs.Units.{tag_of}
-use Rattle.stabs_tool.specs.Listings.{IsListing}
-use Rattle.stabs_tool.specs.Listed.{listing_text}
-use Rattle.stabs_tool.specs.Readings.{strings_of, AreUnit, AreRefused}
 use Rattle.stabs_tool.specs.Words.{first}
 use Rattle.stabs_tool.specs.Commands.{asked, inputs_of, most_of}
 use Rattle.stabs_tool.specs.Inputs.{loaded_inputs, name_at}
-use Rattle.stabs_tool.specs.Outcomes.{printed, usage, absent, read_fault, limit, refused, nothing}
+use Rattle.stabs_tool.specs.Outcomes.{printed, usage, absent, read_fault, limit, refused}
+
+-- ---- the world of an object
+
+-- the address at which text ends
+abbrev pub text_end : Object → ℕ
+text_end object = object.parts.entry + length object.parts.text
+
+-- this is the world of the object's entries
+abbrev pub IsWorld : Object → World → Type 0
+IsWorld object world = IsWorldOf (text_end object) (named_of object) world
+
+-- its entries have no units, and this fault
+abbrev pub WorldFault : Object → Fault → Type 0
+WorldFault object f = UnitsFault (text_end object) (named_of object) f
 
 -- ---- a query of a file
 
--- the reply on a tag of a unit: its listing, or nothing where there is none
-abbrev pub RepliesOnTag : Unit → List ℕ → Outcome → Type 0
-RepliesOnTag unit tag o = ((tag_of unit tag ≡ None) × (o ≡ nothing))
-    ⊎ ((key : Key) × (keys : List Key) × (tag_of unit tag ≡ Some key) × IsListing unit key keys × (o ≡ printed DONE (listing_text unit keys)))
+-- the reply on a world
+abbrev pub RepliesOnWorld : Query → World → Outcome → Type 0
+RepliesOnWorld query world o = (text : List ℕ) × replies.Answers world query text × (o ≡ printed DONE text)
 
--- the reply on a tag of the unit with a number, of a file with this one unit
-abbrev pub RepliesInUnit : Unit → ℕ → List ℕ → Outcome → Type 0
-RepliesInUnit unit zero tag o = RepliesOnTag unit tag o
-RepliesInUnit unit (suc other) tag o = o ≡ nothing
-
--- the reply on a file with this one unit
-abbrev pub RepliesOnUnit : Query → Unit → Outcome → Type 0
-RepliesOnUnit (TagNamed number tag) unit o = RepliesInUnit unit number tag o
-
--- the reply on an object, whose file has this name: that of its unit, or its refusal
+-- the reply on an object, whose file has this name: that on its world, or its refusal
 abbrev pub RepliesOnObject : List ℕ → Query → Object → Outcome → Type 0
-RepliesOnObject name query object o = ((unit : Unit) × AreUnit (strings_of object) unit × RepliesOnUnit query unit o)
-    ⊎ ((f : Fault) × AreRefused (strings_of object) f × (o ≡ refused name f))
+RepliesOnObject name query object o = ((world : World) × IsWorld object world × RepliesOnWorld query world o)
+    ⊎ ((f : Fault) × WorldFault object f × (o ≡ refused name f))
 
 -- the reply on the bytes of a file: that of the object that they spell, or the refusal of the file
 abbrev pub RepliesOnBytes : List ℕ → Query → List ℕ → Outcome → Type 0

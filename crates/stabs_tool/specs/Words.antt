@@ -1,16 +1,12 @@
 -- The words of a command line: what each place of a command wants, and which word is wrong. This is this project's own.
-use Rattle.std.specs.Prelude.{ℕ, ◌+◌, Bool, false, true, ◌&&◌, nat_le, if◌then◌else◌, List, [], ◌∷◌, codes, Option, Some, None, unwrap_or}
+use Rattle.std.specs.Prelude.{ℕ, ◌+◌, Bool, false, true, ◌&&◌, if◌then◌else◌, List, [], ◌∷◌, length, take, codes, Option, Some, None}
 use Rattle.std.specs.Str.{bytes_eq, is_utf8}
-use Rattle.std.specs.Result.{result_ok}
-use Rattle.readers.specs.Readers.{whole_of}
-use Rattle.readers.specs.Words.{number_at}
-use Rattle.stabs_tool.specs.declared.words.TheConstants.{GREATEST_NUMBER}
 use Rattle.stabs_tool.specs.declared.words.Keyword.{Keyword}
 use Rattle.stabs_tool.specs.declared.words.Keyword.TheVariants as keywords
 use Rattle.stabs_tool.specs.declared.words.Operand.{Operand}
 use Rattle.stabs_tool.specs.declared.words.Operand.TheVariants as operands
 use Rattle.stabs_tool.specs.declared.words.Want.{Want}
-use Rattle.stabs_tool.specs.declared.words.Want.TheVariants.{This, Any, Number}
+use Rattle.stabs_tool.specs.declared.words.Want.TheVariants.{This, Any}
 
 -- ---- words
 
@@ -18,27 +14,9 @@ use Rattle.stabs_tool.specs.declared.words.Want.TheVariants.{This, Any, Number}
 abbrev pub is_text : List ℕ → Bool
 is_text word = is_utf8 word
 
--- the number that a word spells in decimal digits without a leading zero, up to the greatest
-abbrev pub spelled_number : List ℕ → Option ℕ
-spelled_number word = result_ok (whole_of (number_at GREATEST_NUMBER) word)
-
--- that number; 0 where the word spells none
-abbrev pub number_of : List ℕ → ℕ
-number_of word = unwrap_or (spelled_number word) 0
-
--- there is a number, and it is at most this one
-abbrev pub at_most : ℕ → Option ℕ → Bool
-at_most most None = false
-at_most most (Some number) = nat_le number most
-
--- the word spells a number up to `most`
-abbrev pub is_number : ℕ → List ℕ → Bool
-is_number most word = at_most most (spelled_number word)
-
 -- the word that a keyword is
 abbrev pub keyword_text : Keyword → List ℕ
 keyword_text keywords.Query = codes "query"
-keyword_text keywords.Tag = codes "tag"
 
 -- ---- places
 
@@ -46,7 +24,6 @@ keyword_text keywords.Tag = codes "tag"
 abbrev pub is_wanted : Want → List ℕ → Bool
 is_wanted (This keyword) word = bytes_eq word (keyword_text keyword)
 is_wanted (Any operand) word = true
-is_wanted (Number operand most) word = is_number most word
 
 -- the place holds what it wants, and that is UTF-8
 abbrev pub holds : Want → List ℕ → Bool
@@ -64,20 +41,20 @@ wrong_from at (want ∷ places) (word ∷ words) = if holds want word then wrong
 abbrev pub wrong_place : List Want → List (List ℕ) → Option ℕ
 wrong_place places words = wrong_from 0 places words
 
+-- the wrong place among the first words, as many as there are places; others may follow
+abbrev pub wrong_front : List Want → List (List ℕ) → Option ℕ
+wrong_front places words = wrong_place places (take (length places) words)
+
 -- ---- operands
 
 -- the two are one operand
 abbrev pub same_operand : Operand → Operand → Bool
 same_operand operands.File operands.File = true
-same_operand operands.Unit operands.Unit = true
-same_operand operands.Name operands.Name = true
-same_operand one other = false
 
 -- the place wants this operand
 abbrev pub is_operand : Operand → Want → Bool
 is_operand operand (This keyword) = false
 is_operand operand (Any other) = same_operand operand other
-is_operand operand (Number other most) = same_operand operand other
 
 -- the first word of a line; empty where there is none
 abbrev pub first : List (List ℕ) → List ℕ

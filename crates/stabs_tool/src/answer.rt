@@ -1,50 +1,36 @@
 //! The outcome of a command over what its inputs came to.
 
-ghost use Rattle.std.specs.Prelude.{◌≡◌, IfOk};
+ghost use Rattle.std.specs.Prelude.{◌≡◌, ◌<◌, ◌^◌, length, IfOk};
 ghost use Rattle.stabs_tool.specs.Commands as commands;
 ghost use Rattle.stabs_tool.specs.Inputs.{IsPlaced};
 ghost use Rattle.stabs_tool.specs.Words as words;
-ghost use Rattle.stabs_tool.specs.Replies.{RepliesOnTag, RepliesOnUnit, RepliesOnObject, RepliesOnBytes, Answers, RepliesTo};
+ghost use Rattle.stabs_tool.specs.Replies.{RepliesOnWorld, RepliesOnObject, RepliesOnBytes, Answers, RepliesTo};
 
-use crate::command::{Command, Query, most_of};
+use crate::command::{Command, most_of};
 use crate::inputs::{Cause, Inputs};
-use crate::listed::listing_text;
-use crate::outcome::{DONE, Outcome, absent, limit, nothing, printed, read_fault, refused};
-use crate::types::{Unit, find_tag, listing};
-use crate::unit_reading::unit_of;
+use crate::outcome::{DONE, Outcome, absent, limit, printed, read_fault, refused};
+use crate::reading::read_world;
 use aout_object::{Object, decode};
+use query_text::{Query, reply_text};
 use st_base::{FILE_LIMIT, Memory, Refused, Text};
 use std::alloc::Global;
+use type_graph::World;
 
-/// The reply on a tag of a unit.
-fn on_tag(alloc: Global, unit: &Unit, tag: &[u8]) -> Result<Outcome, Memory>
-    ensures { IfOk result (RepliesOnTag unit.now tag.now) }
+/// The reply on a world.
+fn on_world(alloc: Global, query: &Query, world: &World) -> Result<Outcome, Memory>
+    requires { length world.now.units < 2 ^ 32 }
+    ensures { IfOk result (RepliesOnWorld query.now world.now) }
 {
-    match find_tag(unit, tag) {
-        None => nothing(alloc),
-        Some(key) => {
-            let keys = listing(alloc, unit, key)?;
-            Ok(printed(DONE, listing_text(alloc, unit, &keys)?))
-        }
-    }
-}
-
-/// The reply on a file with one unit.
-fn on_unit(alloc: Global, query: &Query, unit: &Unit) -> Result<Outcome, Memory>
-    ensures { IfOk result (RepliesOnUnit query.now unit.now) }
-{
-    match query {
-        Query::TagNamed(0, tag) => on_tag(alloc, unit, tag.bytes()),
-        Query::TagNamed(_, _) => nothing(alloc),
-    }
+    let text = reply_text(alloc, world, query)?;
+    Ok(printed(DONE, text))
 }
 
 /// The reply on an object.
 fn on_object(alloc: Global, name: &[u8], query: &Query, object: &Object) -> Result<Outcome, Memory>
     ensures { IfOk result (RepliesOnObject name.now query.now object.now) }
 {
-    match unit_of(alloc, object) {
-        Ok(unit) => on_unit(alloc, query, &unit),
+    match read_world(alloc, object) {
+        Ok(world) => on_world(alloc, query, &world),
         Err(Refused::At(fault)) => refused(alloc, name, fault),
         Err(Refused::Memory) => Err(Memory),
     }

@@ -1,18 +1,12 @@
 //! What words ask: a command with its operands, or the place of the wrong word.
 
-ghost use Rattle.std.specs.Prelude.{◌≡◌, IfOk};
+ghost use Rattle.std.specs.Prelude.{◌≡◌, ◌≤◌, IfOk, length};
 ghost use Rattle.stabs_tool.specs.Commands as spec;
 
-use crate::words::{GREATEST_NUMBER, Keyword, Operand, Want, number_of, text_of, wrong_place};
-use st_base::{FILE_LIMIT, List, Memory, Text};
+use crate::words::{Keyword, Operand, Want, text_of, wrong_front};
+use query_text::{Query, read_query};
+use st_base::{FILE_LIMIT, List, Memory, Refused, Text};
 use std::alloc::Global;
-
-/// A question about the stabs of a file.
-#[derive(Debug, Drop)]
-pub enum Query {
-    /// `tag U NAME`: the listing of the tag of this name in the unit with this number.
-    TagNamed(u32, Text),
-}
 
 /// A command with its operands.
 #[derive(Debug, Drop)]
@@ -29,55 +23,69 @@ pub enum Asked {
     Wrong(usize),
 }
 
-/// The forms of command lines; each is a list of places.
+/// The forms of command lines; each is a list of places, and what may follow them.
 #[derive(Clone, Copy, Debug, Drop, PartialEq, Eq)]
 enum Form {
-    /// `query FILE tag U NAME`
-    TagNamed,
+    /// `query FILE`, and the words of a query.
+    Query,
 }
 
-const FORMS: [Form; 1] = [Form::TagNamed];
+const FORMS: [Form; 1] = [Form::Query];
 
 /// What the places of a form want.
 fn places_of(form: Form) -> &'static [Want]
     ensures { result.now ≡ spec.places_of form }
 {
     match form {
-        Form::TagNamed => &[
-            Want::This(Keyword::Query),
-            Want::Any(Operand::File),
-            Want::This(Keyword::Tag),
-            Want::Number(Operand::Unit, GREATEST_NUMBER),
-            Want::Any(Operand::Name),
-        ],
+        Form::Query => &[Want::This(Keyword::Query), Want::Any(Operand::File)],
     }
 }
 
-/// The command of words that are those of a form.
-fn command_of(alloc: Global, form: Form, words: &[Text]) -> Result<Command, Memory>
-    ensures { IfOk result (λ command. command ≡ spec.command_of form words.now) }
+/// The question on a file, or the place of the first wrong word behind the places.
+fn asked_query(alloc: Global, words: &List<Text>) -> Result<Asked, Memory>
+    requires { length (spec.places_of Form.Query) ≤ length words.now }
+    ensures { IfOk result (λ asked. asked ≡ spec.command_of Form.Query words.now) }
 {
-    let places = places_of(form);
-    match form {
-        Form::TagNamed => {
-            let file = text_of(alloc, places, words, Operand::File)?;
-            let unit = number_of(places, words, Operand::Unit);
-            let name = text_of(alloc, places, words, Operand::Name)?;
-            let query = Query::TagNamed(unit, name);
-            Ok(Command::Query { file, query })
+    let places = places_of(Form::Query);
+    match read_query(alloc, words, places.len()) {
+        Ok(query) => {
+            let file = text_of(alloc, places, words.items(), Operand::File)?;
+            Ok(Asked::Command(Command::Query { file, query }))
         }
+        Err(Refused::At(fault)) => Ok(Asked::Wrong(fault.place as usize)),
+        Err(Refused::Memory) => Err(Memory),
+    }
+}
+
+/// What words ask whose front is what the places of a form want.
+fn command_of(alloc: Global, form: Form, words: &List<Text>) -> Result<Asked, Memory>
+    requires { length (spec.places_of form) ≤ length words.now }
+    ensures { IfOk result (λ asked. asked ≡ spec.command_of form words.now) }
+{
+    match form {
+        Form::Query => asked_query(alloc, words),
+    }
+}
+
+/// What the words ask in a form.
+fn asked_in(alloc: Global, form: Form, words: &List<Text>) -> Result<Asked, Memory>
+    ensures { IfOk result (λ asked. asked ≡ spec.asked_in form words.now) }
+{
+    match wrong_front(places_of(form), words.items()) {
+        Some(at) => Ok(Asked::Wrong(at)),
+        None => command_of(alloc, form, words),
     }
 }
 
 /// What the words ask: the command of the form that they are of, else the place up to which some form goes along with them.
-pub fn read_words(alloc: Global, words: &[Text]) -> Result<Asked, Memory>
+pub fn read_words(alloc: Global, words: &List<Text>) -> Result<Asked, Memory>
     ensures { IfOk result (λ asked. asked ≡ spec.asked words.now) }
 {
     let mut furthest = 0;
     for form in FORMS {
-        match wrong_place(places_of(form), words) {
-            None => return Ok(Asked::Command(command_of(alloc, form, words)?)),
-            Some(at) => furthest = furthest.max(at),
+        match asked_in(alloc, form, words)? {
+            Asked::Command(command) => return Ok(Asked::Command(command)),
+            Asked::Wrong(at) => furthest = furthest.max(at),
         }
     }
     Ok(Asked::Wrong(furthest))

@@ -38,7 +38,7 @@ pub fn decide<F: Files>(alloc: Global, words: &List<Text>, files: &mut F) -> Res
     ensures stores { F.store_faults files.new ≡ F.store_faults files.old }
     ensures later { F.load_faults files.old ≤ F.load_faults files.new }
 {
-    let asked = read_words(alloc, words.items())?;
+    let asked = read_words(alloc, words)?;
     match asked {
         Asked::Wrong(at) => usage(alloc, at),
         Asked::Command(command) => perform(alloc, &command, files),

@@ -9,11 +9,11 @@ ghost use Rattle.stabs_tool.specs.Replies.{IsOutcome, AreBytes};
 
 use crate::outcome::NO_MEMORY;
 use crate::top::run;
-use crate::types::{a_listing, one_listing};
 use aout_object::object_laws;
 use outside::{SureFiles, SureSink};
+use query_text::{a_reply, one_reply};
 use st_base::{List, Text};
-use stab_grammar::one_symbol;
+use stab_units::one_units;
 use std::alloc::Global;
 
 /// Words have one outcome at most over files with the same contents.
@@ -21,8 +21,8 @@ pub fn one_outcome()
     ensures { (words : List (List ℕ)) (m : Contents) (o other : Outcome) → IsOutcome words m o → IsOutcome words m other → o ≡ other }
 {
     object_laws();
-    one_symbol();
-    one_listing();
+    one_units();
+    one_reply();
 }
 
 /// Words have an outcome over all contents that are bytes, as those of files are.
@@ -30,8 +30,8 @@ pub fn an_outcome()
     ensures { (words : List (List ℕ)) (m : Contents) → AreBytes m → (o : Outcome) × IsOutcome words m o }
 {
     object_laws();
-    one_symbol();
-    a_listing();
+    one_units();
+    a_reply();
 }
 
 /// A run over files and a sink that never fail: the outcome is carried out, unless out of memory.

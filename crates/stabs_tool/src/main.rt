@@ -11,17 +11,13 @@ mod command;
 mod decide;
 mod inputs;
 mod laws;
-mod listed;
-mod numbers;
 mod outcome;
-mod stabs;
+mod reading;
 #[cfg(test)]
 mod table;
 #[cfg(test)]
 mod tests;
 mod top;
-pub mod types;
-mod unit_reading;
 mod words;
 
 use arguments::words_of;

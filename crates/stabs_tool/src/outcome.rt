@@ -4,8 +4,7 @@
 ghost use Rattle.std.specs.Prelude.{◌≡◌, ◌++◌, decimal, IfOk, OnOk};
 ghost use Rattle.stabs_tool.specs.Outcomes as spec;
 
-use crate::numbers::put_number;
-use st_base::{Fault, Memory, Text, show};
+use st_base::{Fault, Memory, Text, put_number, show};
 use std::alloc::Global;
 
 /// The defined output was printed, and stored where the command stores.
@@ -124,12 +123,4 @@ pub fn refused(alloc: Global, name: &[u8], fault: Fault) -> Result<Outcome, Memo
     text.push(b' ')?;
     put_fault(fault, &mut text)?;
     line(REFUSED, text)
-}
-
-/// `none`.
-#[tactic(auto, unfolding(crate::specs::Outcomes::nothing))]
-pub fn nothing(alloc: Global) -> Result<Outcome, Memory>
-    ensures { IfOk result (λ o. o ≡ spec.nothing) }
-{
-    line(DONE, Text::of(alloc, b"none")?)
 }

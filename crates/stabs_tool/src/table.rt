@@ -51,8 +51,20 @@ run query a.o
 > usage: word 2
 ends 2
 # another question
-run query a.o units
+run query a.o unit
 > usage: word 2
+ends 2
+# a word too many behind a question without operands
+run query a.o units x
+> usage: word 3
+ends 2
+# an address past the greatest
+run query a.o scope 0x100000000
+> usage: word 3
+ends 2
+# a line past the greatest
+run query a.o addresses a.c 65536
+> usage: word 4
 ends 2
 # a number is missing
 run query a.o tag
@@ -206,10 +218,13 @@ run query x.o tag 0 list
 > refused x.o 13 0 0
 ends 3
 file x.o 07016400_00000000_00000000_00000000_00000000_00000000_00000000_00000000
-# a file without entries has no unit, which is not read yet
+# a file without entries has no units
+run query x.o units
+> none
+ends 0
 run query x.o tag 0 list
-> refused x.o 200 0 0
-ends 3
+> none
+ends 0
 
 object little l.o 05:_f 64:a.c 05:_g 80:int:t(0,1)=r(0,1);-2147483648;2147483647; 01:_h 80:list:T(0,2)=s8val:(0,1),0,32;next:(0,3)=*(0,2),32,32;; 05:
 object big b.o 05:_f 64:a.c 05:_g 80:int:t(0,1)=r(0,1);-2147483648;2147483647; 01:_h 80:list:T(0,2)=s8val:(0,1),0,32;next:(0,3)=*(0,2),32,32;; 05:
@@ -256,17 +271,18 @@ run query x.o tag 0 leaf
 > 1 - - xsleaf:
 ends 0
 object big x.o 64:a.c 80:far:T(1,1)=s4a:7,0,32;; 80:near:T8=s4a:7,0,32;b:(1,1),32,32;; 80:seven:t7=-1;
-# a number of another file has no definition yet
+# a number of a file that is not there is defined by the main source, and has no name
 run query x.o tag 0 far
-> 1
-> 0 - - undefined
+> 2
+> 0 - - s4a:#1,0,32;;
+> 1 t seven -1;
 ends 0
 # a plain number is one of file 0
 run query x.o tag 0 near
 > 3
 > 0 T near s4a:#1,0,32;b:#2,32,32;;
 > 1 t seven -1;
-> 2 - - undefined
+> 2 - - s4a:#1,0,32;;
 ends 0
 object little x.o 64:a.c 80:e:t(0,900)=f(0,77) 80:unused:t(0,20)=*(0,900) 80:d:t(0,5)=B(0,900) 80:c:t(0,1000)=*(0,5) 80:chain:T(0,3)=u4m:(0,1000),0,32;; 80:chain:T(0,20)
 # a chain from a later symbol to earlier ones, and the first of two tags
@@ -321,38 +337,240 @@ run query x.o tag 0 x
 ends 3
 object little x.o
 # no stabs
-run query x.o tag 0 x
-> refused x.o 200 0 0
+run query x.o units
+> none
+ends 0
+
+# ---- all questions
+object little a.o 64:/w/ 64:a.c 3c:gcc2_compiled. 80:int:t(0,1)=r(0,1);-2147483648;2147483647; 82:stdio.h 80:size_t:t(1,1)=(0,1) a2: 82:list.h 80:list:T(2,1)=s8val:(0,1),0,32;next:(2,2)=*(2,1),32,32;; a2: 05:_main 24@0.3:main:F(0,1) a0@8:argc:p(0,1) 44@0.4: 44@4.5: 80@fffffffc:head:(0,2)=*(2,1) c0: e0@8: 01@4:_total 20:total:G(0,1) 64@8: 01:_f
+# an object of a compiler, in little order: a common has no address
+run query a.o units
+> 0 00000000 00000008 /w/a.c
+ends 0
+run query a.o files 0
+> 0 /w/a.c
+> 1 stdio.h
+> 2 list.h
+ends 0
+run query a.o tag 0 list
+> 3
+> 0 T list s8val:#1,0,32;next:#2,32,32;;
+> 1 t int r#1;-2147483648;2147483647;
+> 2 - - *#0
+ends 0
+run query a.o type 0 size_t
+> 2
+> 0 t size_t #1
+> 1 t int r#1;-2147483648;2147483647;
+ends 0
+run query a.o number 0 0 2
+> 4
+> 0 - - *#1
+> 1 T list s8val:#2,0,32;next:#3,32,32;;
+> 2 t int r#2;-2147483648;2147483647;
+> 3 - - *#1
+ends 0
+run query a.o scope 0x5
+> unit 0 /w/a.c
+> function main 00000000
+> var p argc (0,1) 00000008
+> block 00000000 00000008
+> var - head (0,2)=*(2,1) fffffffc
+> var G total (0,1) -
+ends 0
+run query a.o line 0x6
+> /w/a.c 5 00000004
+ends 0
+run query a.o addresses /w/a.c 5
+> 0 00000004
+ends 0
+run query a.o scope 0x8
+> none
+ends 0
+run query a.o addresses a.c 5
+> none
+ends 0
+object big b.o 64:/w/ 64:a.c 3c:gcc2_compiled. 80:int:t(0,1)=r(0,1);-2147483648;2147483647; 82:stdio.h 80:size_t:t(1,1)=(0,1) a2: 82:list.h 80:list:T(2,1)=s8val:(0,1),0,32;next:(2,2)=*(2,1),32,32;; a2: 05:_main 24@0.3:main:F(0,1) a0@8:argc:p(0,1) 44@0.4: 44@4.5: 80@fffffffc:head:(0,2)=*(2,1) c0: e0@8: 09@100c:_total 20:total:G(0,1) 64@8: 01:_f
+# the same in big order, where the variable has an address
+run query b.o units
+> 0 00000000 00000008 /w/a.c
+ends 0
+run query b.o files 0
+> 0 /w/a.c
+> 1 stdio.h
+> 2 list.h
+ends 0
+run query b.o tag 0 list
+> 3
+> 0 T list s8val:#1,0,32;next:#2,32,32;;
+> 1 t int r#1;-2147483648;2147483647;
+> 2 - - *#0
+ends 0
+run query b.o type 0 size_t
+> 2
+> 0 t size_t #1
+> 1 t int r#1;-2147483648;2147483647;
+ends 0
+run query b.o number 0 0 2
+> 4
+> 0 - - *#1
+> 1 T list s8val:#2,0,32;next:#3,32,32;;
+> 2 t int r#2;-2147483648;2147483647;
+> 3 - - *#1
+ends 0
+run query b.o scope 0x5
+> unit 0 /w/a.c
+> function main 00000000
+> var p argc (0,1) 00000008
+> block 00000000 00000008
+> var - head (0,2)=*(2,1) fffffffc
+> var G total (0,1) 0000100c
+ends 0
+run query b.o line 0x6
+> /w/a.c 5 00000004
+ends 0
+run query b.o addresses /w/a.c 5
+> 0 00000004
+ends 0
+run query b.o scope 0x8
+> none
+ends 0
+run query b.o addresses a.c 5
+> none
+ends 0
+object little x.o 64:a.c 80:void:t(0,19)=(0,19)
+# a type that is itself
+run query x.o type 0 void
+> 1
+> 0 t void #0
+ends 0
+object little x.o 64:a.c 80:int:t(0,1)=r(0,1);-2147483648;2147483647; 80:list:T(0,2)=s8val:(0,1),\\ 80:0,32;next:(0,3)=\\ 80:*(0,2),32,32;;
+# a string in three entries
+run query x.o tag 0 list
+> 3
+> 0 T list s8val:#1,0,32;next:#2,32,32;;
+> 1 t int r#1;-2147483648;2147483647;
+> 2 - - *#0
+ends 0
+object little x.o 64:a.c 80:int:t(0,1)=r(0,1);-2147483648;2147483647; 80:list:T(0,2)=s8val:(0,1),\\ 80:0,32;next:(0,3)=\\ 24:*(0,2),32,32;;
+# the last of the three is of another kind
+run query x.o tag 0 list
+> refused x.o 51 3 0
 ends 3
+object little x.o 64:a.c 80:ull:t(0,9)=@s64;r(0,9);0;01777777777777777777777;
+# an attribute, and an octal bound
+run query x.o type 0 ull
+> 1
+> 0 t ull @s64;r#0;0;01777777777777777777777;
+ends 0
+object little x.o 64:a.c 82:n.h 80:n:T(1,1)=xsn: a2: 80:int:t(0,1)=r(0,1);-2147483648;2147483647; 80:n:T(1,1)=s4v:(0,1),0,32;;
+# a cross reference of a header, and its later definition in the main file
+run query x.o tag 0 n
+> 2
+> 0 T n s4v:#1,0,32;;
+> 1 t int r#1;-2147483648;2147483647;
+ends 0
+run query x.o number 0 7 7
+> 1
+> 0 - - undefined
+ends 0
+run query x.o tag 0 zz
+> none
+ends 0
+# a tag is no typedef
+run query x.o type 0 n
+> none
+ends 0
+# ---- stabs that are no units
 object little x.o 80:t:t1=-1;
 # a symbol outside a unit
-run query x.o tag 0 x
-> refused x.o 200 0 0
+run query x.o units
+> refused x.o 50 0 0
 ends 3
-object little x.o 64:dir/ 64:a.c
-# a directory mark
-run query x.o tag 0 x
-> refused x.o 200 0 0
-ends 3
-object little x.o 64:a.c 80:x:t(01,2) 24:f:F1
-# stabs that are not read come before a wrong string
-run query x.o tag 0 x
-> refused x.o 200 0 0
-ends 3
-object little x.o 64:a.c 80:
-# a symbol without a string
-run query x.o tag 0 x
-> refused x.o 200 0 0
+object big x.o 64:a.c 80:t:t1=-1; 64@1004: 80:u:t2=-1;
+# a symbol behind the end of a unit
+run query x.o units
+> refused x.o 50 3 0
 ends 3
 object little x.o 64:a.c 80:x:\\
-# a string that goes on
-run query x.o tag 0 x
-> refused x.o 200 0 0
+# a string that is not continued
+run query x.o units
+> refused x.o 51 1 0
 ends 3
-object little x.o 64:a.c ff:x
-# the greatest kind
-run query x.o tag 0 x
-> refused x.o 200 0 0
+object little x.o 64:a.c 80:x:t1=\\ 24:-1;
+# a string that is continued by another kind
+run query x.o units
+> refused x.o 51 1 0
 ends 3
-rows 68
+object little x.o 64:a.c 82:a.h 82:b.h a2:
+# a header range that is not closed
+run query x.o units
+> refused x.o 52 1 0
+ends 3
+object little x.o 64:a.c a2:
+# a header range that is not open
+run query x.o units
+> refused x.o 53 1 0
+ends 3
+object little x.o 64:a.c c0: c0: e0:
+# a block that is not closed
+run query x.o units
+> refused x.o 54 1 0
+ends 3
+object little x.o 64:a.c e0:
+# a block that is not open
+run query x.o units
+> refused x.o 54 1 0
+ends 3
+object little x.o 64:a.c c2@5:a.h
+# an excluded header
+run query x.o units
+> refused x.o 55 1 0
+ends 3
+object little x.o 80:x:\\
+# two faults at one entry: the smaller number
+run query x.o units
+> refused x.o 50 0 0
+ends 3
+object little x.o 64:a.c c2:a.h e0:
+# two faults at two entries: the first
+run query x.o units
+> refused x.o 55 1 0
+ends 3
+object big x.o 64:a.c 80:x:t(01,2) 82:a.h
+# an open header comes before a wrong string
+run query x.o units
+> refused x.o 52 2 0
+ends 3
+object big x.o 64:a.c 80:x:t(0,1)=\\ 80:(01,2) 80:y:t(0
+# a wrong string is told at its first entry, by the place in the whole string
+run query x.o units
+> refused x.o 40 1 11
+ends 3
+object little x.o 64:a.c ff:x 80:
+# kinds that carry no symbol, and a symbol without a string
+run query x.o units
+> 0 00000000 00001004 a.c
+ends 0
+
+# ---- units
+object little x.o 64@1000:/w/ 64@1000:a.c 44@1000.1: 64@1002:b.c 05@1004:_b 64@1003:
+# two units, the first behind a directory's mark, the second with its end
+run query x.o units
+> 0 00001000 00001002 /w/a.c
+> 1 00001002 00001003 b.c
+ends 0
+run query x.o files 1
+> 0 b.c
+ends 0
+run query x.o files 2
+> none
+ends 0
+run query x.o line 0x1001
+> /w/a.c 1 00001000
+ends 0
+run query x.o line 0x1002
+> none
+ends 0
+rows 113
 ";

@@ -3,8 +3,8 @@
 //! A line of the table begins with its kind. `#` says what the row behind it is about, and is told where the row fails.
 //!
 //! - `file NAME BYTES`: a file from here on. Bytes are two hexadecimal digits each, and texts between quotes; `_` means nothing.
-//! - `object ORDER NAME ENTRIES`: a file with four bytes of text, four of data, a relocation of each, and these entries, each its
-//!   kind in two digits, `:` and its name.
+//! - `object ORDER NAME ENTRIES`: a file with four bytes of text at 0x1000, four of data, a relocation of each, and these entries,
+//!   each `KIND:NAME`, `KIND@VALUE:NAME` or `KIND@VALUE.DESC:NAME`, the numbers in hexadecimal digits.
 //! - `files N`, `sink N`: in the next run the call of this number fails, counted from 0.
 //! - `run WORDS`: the program over all files so far, with these words.
 //! - `carry STATUS NAME BYTES TEXT`: an outcome that stores these bytes under the name and prints the text and a line feed.
@@ -47,14 +47,18 @@ struct Table {
 
 // ---- the parts of a line
 
-/// What stands before the first blank, and what behind it.
-fn word(line: &[u8]) -> (&[u8], &[u8]) {
+/// What stands before the first of this byte, and what behind it.
+fn cut(line: &[u8], byte: u8) -> (&[u8], &[u8]) {
     for at in 0..line.len() {
-        if line[at] == b' ' {
+        if line[at] == byte {
             return (&line[..at], &line[at + 1..]);
         }
     }
     (line, &[])
+}
+
+fn word(line: &[u8]) -> (&[u8], &[u8]) {
+    cut(line, b' ')
 }
 
 /// The words of a line, split at its blanks.
@@ -149,15 +153,29 @@ fn put_header(out: &mut Text, big: bool, entries: u32) -> Result<(), Fail> {
     Ok(())
 }
 
+/// An entry whose name has this offset, its kind, value and desc spelled before its name.
+fn put_entry(out: &mut Text, big: bool, strx: u32, head: &[u8]) -> Result<(), Fail> {
+    let (kind, rest) = cut(head, b'@');
+    let (value, desc) = cut(rest, b'.');
+    let desc = number_of(16, desc) as u16;
+    put_word(out, big, strx)?;
+    out.extend(&[byte_of(kind), 0])?;
+    if big {
+        out.extend(&desc.to_be_bytes())?;
+    } else {
+        out.extend(&desc.to_le_bytes())?;
+    }
+    put_word(out, big, number_of(16, value) as u32)
+}
+
 /// An object with these entries.
 fn object(alloc: Global, big: bool, spelled: &[u8]) -> Result<Text, Fail> {
     let mut entries = Text::new(alloc);
     let mut names = Text::new(alloc);
     for entry in spelled.split(|b| *b == b' ') {
-        if let [high, low, b':', name @ ..] = entry {
-            put_word(&mut entries, big, size_of(&names, 4))?;
-            entries.extend(&[byte_of(&[*high, *low]), 0, 0, 0])?;
-            put_word(&mut entries, big, 0)?;
+        let (head, name) = cut(entry, b':');
+        if !head.is_empty() {
+            put_entry(&mut entries, big, size_of(&names, 4), head)?;
             names.extend(name)?;
             names.push(0)?;
         }

@@ -1,21 +1,16 @@
 //! What the places of a command's words want, and where words are not what is wanted.
 
-ghost use Rattle.std.specs.Prelude.{◌≡◌, IfOk};
+ghost use Rattle.std.specs.Prelude.{◌≡◌, IfOk, length, take};
 ghost use Rattle.stabs_tool.specs.Words as spec;
 
-use readers::whole_number;
 use st_base::{Memory, Text};
 use std::alloc::Global;
 use std::str::from_utf8;
-
-/// The greatest number in a command.
-pub const GREATEST_NUMBER: u32 = u32::MAX;
 
 /// A word that stands in commands as it is.
 #[derive(Clone, Copy, Debug, Drop, PartialEq, Eq)]
 pub enum Keyword {
     Query,
-    Tag,
 }
 
 /// What a word of a command is to the command.
@@ -23,10 +18,6 @@ pub enum Keyword {
 pub enum Operand {
     /// FILE, the file that is read.
     File,
-    /// U, the number of a unit.
-    Unit,
-    /// NAME, that of a tag.
-    Name,
 }
 
 /// What a place of a command's words wants. Wherever it stands, a word that is not UTF-8 is not wanted.
@@ -36,8 +27,6 @@ pub enum Want {
     This(Keyword),
     /// Any word, as this operand.
     Any(Operand),
-    /// A decimal number without a leading zero, at most so great, as this operand.
-    Number(Operand, u32),
 }
 
 /// The bytes of a keyword. Takes no memory.
@@ -46,7 +35,6 @@ fn keyword_text(keyword: Keyword) -> &'static [u8]
 {
     match keyword {
         Keyword::Query => b"query",
-        Keyword::Tag => b"tag",
     }
 }
 
@@ -56,22 +44,12 @@ fn is_text(word: &Text) -> bool
     from_utf8(word.bytes()).is_ok()
 }
 
-fn is_number(most: u32, word: &Text) -> bool
-    ensures { result ≡ spec.is_number most word.now }
-{
-    match whole_number(GREATEST_NUMBER, word.bytes()) {
-        Some(number) => number <= most,
-        None => false,
-    }
-}
-
 fn is_wanted(want: Want, word: &Text) -> bool
     ensures { result ≡ spec.is_wanted want word.now }
 {
     match want {
         Want::This(keyword) => word.bytes() == keyword_text(keyword),
         Want::Any(_) => true,
-        Want::Number(_, most) => is_number(most, word),
     }
 }
 
@@ -83,7 +61,7 @@ fn holds(want: Want, word: &Text) -> bool
 
 /// The first place whose word is not what is wanted there, the number of words where one is missing, or the place of the first
 /// word too many; `None` where the words are what the places want. Takes no memory.
-pub fn wrong_place(places: &[Want], words: &[Text]) -> Option<usize>
+fn wrong_place(places: &[Want], words: &[Text]) -> Option<usize>
     ensures { result ≡ spec.wrong_place places.now words.now }
 {
     for (at, want) in places.iter().enumerate() {
@@ -100,13 +78,20 @@ pub fn wrong_place(places: &[Want], words: &[Text]) -> Option<usize>
     }
 }
 
+/// The wrong place among the first words, as many as there are places; others may follow. Takes no memory.
+pub fn wrong_front(places: &[Want], words: &[Text]) -> Option<usize>
+    ensures { result ≡ spec.wrong_front places.now words.now }
+{
+    let front = words.len().min(places.len());
+    wrong_place(places, &words[..front])
+}
+
 fn is_operand(operand: Operand, want: Want) -> bool
     ensures { result ≡ spec.is_operand operand want }
 {
     match want {
         Want::This(_) => false,
         Want::Any(other) => operand == other,
-        Want::Number(other, _) => operand == other,
     }
 }
 
@@ -135,11 +120,4 @@ pub fn text_of(
     ensures { IfOk result (λ t. t ≡ spec.word_of wanted places.now words.now) }
 {
     Text::of(alloc, word_of(places, words, wanted))
-}
-
-/// The number that the word of this operand spells; 0 where it spells none. Takes no memory.
-pub fn number_of(places: &[Want], words: &[Text], wanted: Operand) -> u32
-    ensures { result ≡ spec.number_of (spec.word_of wanted places.now words.now) }
-{
-    whole_number(GREATEST_NUMBER, word_of(places, words, wanted)).unwrap_or(0)
 }

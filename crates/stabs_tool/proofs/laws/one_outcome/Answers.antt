@@ -2,5 +2,5 @@ use Rattle.stabs_tool.proofs.OneLaws.{outcome_once}
 use Rattle.stabs_tool.proofs.laws.one_outcome.Goals as goal
 
 pub returns : goal.returns
-returns c = outcome_once c.one_symbol.ensures.one c.one_symbol.ensures.one_fault c.one_symbol.ensures.not_both
-    c.object_laws.ensures.one_object c.object_laws.ensures.one_fault c.object_laws.ensures.not_both c.one_listing.ensures
+returns c = outcome_once c.one_units.ensures.one c.one_units.ensures.one_fault c.one_units.ensures.not_both
+    c.object_laws.ensures.one_object c.object_laws.ensures.one_fault c.object_laws.ensures.not_both c.one_reply.ensures

@@ -1,6 +1,6 @@
 use Rattle.std.proofs.Common.{ap, ◌∙◌}
 use Rattle.std.specs.Str.{is_utf8}
-use Rattle.stabs_tool.proofs.TextLemmas.{read_as_text}
+use Rattle.query_text.proofs.TextLemmas.{read_as_text}
 use Rattle.stabs_tool.proofs.words.is_text.Goals as goal
 
 pub returns : goal.returns

@@ -1,7 +1,0 @@
-use Rattle.std.proofs.Common.{take}
-use Rattle.stab_grammar.specs.Surface.{ArePlaces}
-use Rattle.stabs_tool.proofs.types.places.places.Given as goal
-
--- the places of the keys so far
-abbrev pub invariant-loop-place : goal.invariant-loop-place
-invariant-loop-place l = ArePlaces (take l.place l.keys) l.places
