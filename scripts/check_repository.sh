@@ -72,6 +72,11 @@ var G total (0,1) -' scope 0x5
     asked '0 00000004' addresses /w/a.c 5
 done
 
+ends crates/stabs_tool/data 5 'absent b.o' dump b.o
+[ "$(./stabs dump crates/stabs_tool/data/a_big.o | sed -n '1p;6p;28p')" = 'order big machine 0000 entry 00000000
+reloc text 0 00000004 21 0 2 1
+21 01 00 0000 00000000 _f' ] || complain "stabs dump: other lines"
+
 # a file of one byte more than the limit
 folder=$(mktemp -d)
 truncate -s 134217729 "$folder/long.o"

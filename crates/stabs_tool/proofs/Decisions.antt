@@ -31,7 +31,7 @@ use Rattle.stabs_tool.specs.Outcomes.{printed, usage, absent, read_fault, limit,
 use Rattle.stabs_tool.specs.Causes.{FilesSeen}
 use Rattle.stabs_tool.specs.Inputs.{loaded_inputs, HasCause, IsFailed, IsPlaced, name_at}
 use Rattle.stabs_tool.specs.Deciding.{Decided}
-use Rattle.stabs_tool.specs.Replies.{text_end, WorldFault, RepliesOnWorld, RepliesOnObject, RepliesOnBytes, Answers, RepliesTo, Means}
+use Rattle.stabs_tool.specs.Replies.{text_end, WorldFault, RepliesOnWorld, RepliesOnObject, OnObject, Dumps, Answers, RepliesTo, Means}
 
 -- ---- outcomes of one line
 
@@ -114,13 +114,21 @@ on_world_plain query world o h = subst IsPlain (sym h.2) (plain_done (printed DO
 refused_plain : (name : List ℕ) (f : Fault) (o : Outcome) → o ≡ refused name f → IsPlain o
 refused_plain name f o h = subst IsPlain (sym h) (plain_refused (refused name f) (prints_refused name f))
 
-bytes_plain : (name : List ℕ) (query : Query) (bytes : List ℕ) (o : Outcome) → RepliesOnBytes name query bytes o → IsPlain o
-bytes_plain name query bytes o (are, inl (object, spells, inl h)) = on_world_plain query h.0 o h.2
-bytes_plain name query bytes o (are, inl (object, spells, inr h)) = refused_plain name h.0 o h.2
-bytes_plain name query bytes o (are, inr h) = refused_plain name h.0 o h.2
+world_plain : (name : List ℕ) (query : Query) (object : Object) (o : Outcome) → RepliesOnObject name query object o → IsPlain o
+world_plain name query object o (inl h) = on_world_plain query h.0 o h.2
+world_plain name query object o (inr h) = refused_plain name h.0 o h.2
+
+dump_plain : (object : Object) (o : Outcome) → Dumps object o → IsPlain o
+dump_plain object o h = subst IsPlain (sym h) (plain_done (printed DONE _) (prints_of DONE _))
+
+object_plain : (name bytes : List ℕ) (Says : Object → Outcome → Type 0) → ((object : Object) (o : Outcome) → Says object o → IsPlain o)
+    → (o : Outcome) → OnObject name bytes Says o → IsPlain o
+object_plain name bytes Says plain o (are, inl h) = plain h.0 o h.2
+object_plain name bytes Says plain o (are, inr h) = refused_plain name h.0 o h.2
 
 answers_plain : (command : Command) (texts : List (List ℕ)) (o : Outcome) → Answers command texts o → IsPlain o
-answers_plain (commands.Query file query) texts o h = bytes_plain file query (first texts) o h
+answers_plain (commands.Query file query) texts o h = object_plain file (first texts) (RepliesOnObject file query) (world_plain file query) o h
+answers_plain (commands.Dump file) texts o h = object_plain file (first texts) Dumps dump_plain o h
 
 -- where nothing is stored, what is stored has any name
 unnamed : (P : List ℕ → Type 0) (content : Option Content) → content ≡ None → IfSome content (λ c. P c.name)
@@ -265,24 +273,22 @@ pub by_world_fault : {E : Type 0} (name : List ℕ) (query : Query) (object : Ob
 by_world_fault name query object f (Err e) is said = tt
 by_world_fault name query object f (Ok o) is said = inr ((f, is, said))
 
--- the reply on the object that the bytes spell
-pub by_object : {E : Type 0} (name : List ℕ) (query : Query) (bytes : List ℕ) (object : Object) (res : Result Outcome E)
-    → IsBytes bytes → ObjectSpells object bytes → IfOk res (RepliesOnObject name query object) → IfOk res (RepliesOnBytes name query bytes)
-by_object name query bytes object (Err e) are spells said = tt
-by_object name query bytes object (Ok o) are spells said = (are, inl ((object, spells, said)))
+-- what is said on the object that the bytes spell
+pub by_object : {E : Type 0} (name bytes : List ℕ) (Says : Object → Outcome → Type 0) (object : Object) (res : Result Outcome E)
+    → IsBytes bytes → ObjectSpells object bytes → IfOk res (Says object) → IfOk res (OnObject name bytes Says)
+by_object name bytes Says object (Err e) are spells said = tt
+by_object name bytes Says object (Ok o) are spells said = (are, inl ((object, spells, said)))
 
 -- the refusal of the bytes
-pub by_fault : {E : Type 0} (name : List ℕ) (query : Query) (bytes : List ℕ) (f : Fault) (res : Result Outcome E)
-    → IsBytes bytes → FileFault bytes f → IfOk res (λ o. o ≡ refused name f) → IfOk res (RepliesOnBytes name query bytes)
-by_fault name query bytes f (Err e) are is said = tt
-by_fault name query bytes f (Ok o) are is said = (are, inr ((f, is, said)))
+pub by_fault : {E : Type 0} (name bytes : List ℕ) (Says : Object → Outcome → Type 0) (f : Fault) (res : Result Outcome E)
+    → IsBytes bytes → FileFault bytes f → IfOk res (λ o. o ≡ refused name f) → IfOk res (OnObject name bytes Says)
+by_fault name bytes Says f (Err e) are is said = tt
+by_fault name bytes Says f (Ok o) are is said = (are, inr ((f, is, said)))
 
--- the same bytes
-pub same_bytes : {E : Type 0} (name : List ℕ) (query : Query) (bytes read : List ℕ) (res : Result Outcome E) → read ≡ bytes → IfOk res (RepliesOnBytes name query read) → IfOk res (RepliesOnBytes name query bytes)
-same_bytes name query bytes read res same said = subst (λ (z : List ℕ). IfOk res (RepliesOnBytes name query z)) same said
-
--- the reply to a query is the answer to its command
-pub by_query : {E : Type 0} (command : Command) (name : List ℕ) (query : Query) (texts : List (List ℕ)) (bytes : List ℕ) (res : Result Outcome E)
-    → IfOk res (RepliesOnBytes name query bytes) → bytes ≡ first texts → command ≡ commands.Query name query → IfOk res (Answers command texts)
-by_query command name query texts bytes res said same is =
-    subst (λ (z : Command). IfOk res (Answers z texts)) (sym is) (same_bytes name query (first texts) bytes res same said)
+-- what is said on the bytes that were read is the answer to the command
+pub by_command : {E : Type 0} (command of : Command) (texts : List (List ℕ)) (name read : List ℕ) (Says : Object → Outcome → Type 0) (res : Result Outcome E)
+    → IfOk res (OnObject name read Says) → read ≡ first texts → command ≡ of
+    → ((o : Outcome) → OnObject name (first texts) Says o → Answers of texts o) → IfOk res (Answers command texts)
+by_command command of texts name read Says (Err e) said same is answers = tt
+by_command command of texts name read Says (Ok o) said same is answers =
+    subst (λ (z : Command). Answers z texts o) (sym is) (answers o (subst (λ (z : List ℕ). OnObject name z Says o) same said))

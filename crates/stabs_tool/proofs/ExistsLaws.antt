@@ -26,11 +26,12 @@ use Rattle.stabs_tool.specs.declared.inputs.Inputs.{Inputs}
 use Rattle.stabs_tool.specs.declared.inputs.Inputs.TheVariants.{All, Fault as Faulty, TooMuch}
 use Rattle.stabs_tool.specs.declared.outcome.Outcome.{Outcome}
 use Rattle.stabs_tool.specs.declared.outcome.TheConstants.{DONE}
+use Rattle.stabs_tool.specs.Dump.{dump_text}
 use Rattle.stabs_tool.specs.Words.{first}
 use Rattle.stabs_tool.specs.Commands.{asked, inputs_of, most_of}
 use Rattle.stabs_tool.specs.Inputs.{loaded_inputs, inputs_from, after_content, name_at}
 use Rattle.stabs_tool.specs.Outcomes.{printed, usage, absent, read_fault, limit, refused}
-use Rattle.stabs_tool.specs.Replies.{text_end, RepliesOnWorld, RepliesOnObject, RepliesOnBytes, Answers, RepliesTo, Means, IsOutcome, AreBytes}
+use Rattle.stabs_tool.specs.Replies.{text_end, RepliesOnWorld, RepliesOnObject, OnObject, Dumps, Answers, RepliesTo, Means, IsOutcome, AreBytes}
 
 -- ---- what is loaded is bytes
 
@@ -90,14 +91,16 @@ module _ (some : (end : ℕ) (entries : List Named) → ((units : List UnitOf) �
         (r.0, inl ((world, record { units = u.1; externals = refl }, r.1)))
     by_units (inr f) = (refused name f.0, inr ((f.0, f.1, refl)))
 
-  on_bytes : (name : List ℕ) (query : Query) (bytes : List ℕ) → IsBytes bytes → (o : Outcome) × RepliesOnBytes name query bytes o
-  on_bytes name query bytes are = by_object (object_or_fault bytes are) where
-    by_object : ((object : Object) × ObjectSpells object bytes) ⊎ ((f : Fault) × FileFault bytes f) → (o : Outcome) × RepliesOnBytes name query bytes o
-    by_object (inl s) = let r = on_object name query s.0 in (r.0, (are, inl ((s.0, s.1, r.1))))
+  on_file : (name bytes : List ℕ) (Says : Object → Outcome → Type 0) → ((object : Object) → (o : Outcome) × Says object o) → IsBytes bytes
+      → (o : Outcome) × OnObject name bytes Says o
+  on_file name bytes Says says are = by_object (object_or_fault bytes are) where
+    by_object : ((object : Object) × ObjectSpells object bytes) ⊎ ((f : Fault) × FileFault bytes f) → (o : Outcome) × OnObject name bytes Says o
+    by_object (inl s) = let r = says s.0 in (r.0, (are, inl ((s.0, s.1, r.1))))
     by_object (inr f) = (refused name f.0, (are, inr ((f.0, f.1, refl))))
 
   an_answer : (command : Command) (texts : List (List ℕ)) → AllBytes texts → (o : Outcome) × Answers command texts o
-  an_answer (commands.Query file query) texts all = on_bytes file query (first texts) (first_bytes texts all)
+  an_answer (commands.Query file query) texts all = on_file file (first texts) (RepliesOnObject file query) (on_object file query) (first_bytes texts all)
+  an_answer (commands.Dump file) texts all = on_file file (first texts) Dumps (λ object. (printed DONE (dump_text object), refl)) (first_bytes texts all)
 
   a_result : (command : Command) (inputs : Inputs) → HasBytes inputs → (o : Outcome) × RepliesTo command inputs o
   a_result command (All texts) all = an_answer command texts all

@@ -1,4 +1,5 @@
 pub mod WordLemmas
+pub mod DumpLemmas
 pub mod Decisions
 pub mod Promises
 pub mod OneLaws

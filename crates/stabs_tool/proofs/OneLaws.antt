@@ -26,7 +26,7 @@ use Rattle.stabs_tool.specs.declared.outcome.TheConstants.{DONE}
 use Rattle.stabs_tool.specs.Words.{first}
 use Rattle.stabs_tool.specs.Commands.{asked}
 use Rattle.stabs_tool.specs.Outcomes.{printed, refused}
-use Rattle.stabs_tool.specs.Replies.{text_end, RepliesOnWorld, RepliesOnObject, RepliesOnBytes, Answers, RepliesTo, Means, IsOutcome}
+use Rattle.stabs_tool.specs.Replies.{text_end, RepliesOnWorld, RepliesOnObject, OnObject, Dumps, Answers, RepliesTo, Means, IsOutcome}
 
 -- ---- one world
 
@@ -62,16 +62,18 @@ module _ (one_list : (end : ℕ) (entries : List Named) (us vs : List Unit) → 
     on_object_once name query object o other (inr p) (inl q) = absurd (not_both (text_end object) (named_of object) q.0.units p.0 q.1.units p.1)
     on_object_once name query object o other (inr p) (inr q) = p.2 ∙ ap (refused name) (one_fault (text_end object) (named_of object) p.0 q.0 p.1 q.1) ∙ sym q.2
 
-    on_bytes_once : (name : List ℕ) (query : Query) (bytes : List ℕ) (o other : Outcome) → RepliesOnBytes name query bytes o → RepliesOnBytes name query bytes other → o ≡ other
-    on_bytes_once name query bytes o other (are, inl p) (also, inl q) =
+    on_file_once : (name bytes : List ℕ) (Says : Object → Outcome → Type 0) → ((object : Object) (o other : Outcome) → Says object o → Says object other → o ≡ other)
+        → (o other : Outcome) → OnObject name bytes Says o → OnObject name bytes Says other → o ≡ other
+    on_file_once name bytes Says once o other (are, inl p) (also, inl q) =
         let same : q.0 ≡ p.0 = one_object q.0 p.0 bytes are q.1 p.1 in
-        on_object_once name query p.0 o other p.2 (subst (λ (z : Object). RepliesOnObject name query z other) same q.2)
-    on_bytes_once name query bytes o other (are, inl p) (also, inr q) = absurd (object_or_refusal bytes p.0 q.0 are p.1 q.1)
-    on_bytes_once name query bytes o other (are, inr p) (also, inl q) = absurd (object_or_refusal bytes q.0 p.0 are q.1 p.1)
-    on_bytes_once name query bytes o other (are, inr p) (also, inr q) = p.2 ∙ ap (refused name) (one_refusal bytes p.0 q.0 p.1 q.1) ∙ sym q.2
+        once p.0 o other p.2 (subst (λ (z : Object). Says z other) same q.2)
+    on_file_once name bytes Says once o other (are, inl p) (also, inr q) = absurd (object_or_refusal bytes p.0 q.0 are p.1 q.1)
+    on_file_once name bytes Says once o other (are, inr p) (also, inl q) = absurd (object_or_refusal bytes q.0 p.0 are q.1 p.1)
+    on_file_once name bytes Says once o other (are, inr p) (also, inr q) = p.2 ∙ ap (refused name) (one_refusal bytes p.0 q.0 p.1 q.1) ∙ sym q.2
 
     answers_once : (command : Command) (texts : List (List ℕ)) (o other : Outcome) → Answers command texts o → Answers command texts other → o ≡ other
-    answers_once (commands.Query file query) texts o other p q = on_bytes_once file query (first texts) o other p q
+    answers_once (commands.Query file query) texts o other p q = on_file_once file (first texts) (RepliesOnObject file query) (on_object_once file query) o other p q
+    answers_once (commands.Dump file) texts o other p q = on_file_once file (first texts) Dumps (λ object one two h k. h ∙ sym k) o other p q
 
     replies_once : (command : Command) (inputs : Inputs) (o other : Outcome) → RepliesTo command inputs o → RepliesTo command inputs other → o ≡ other
     replies_once command (All texts) o other p q = answers_once command texts o other p q

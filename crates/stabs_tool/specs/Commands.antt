@@ -21,14 +21,20 @@ use Rattle.stabs_tool.specs.Words.{word_of, wrong_front}
 abbrev pub places_of : Form → List Want
 -- `query FILE`, and the words of a query
 places_of forms.Query = This keywords.Query ∷ Any operands.File ∷ []
+-- `dump FILE`
+places_of forms.Dump = This keywords.Dump ∷ Any operands.File ∷ []
 
 -- all forms
 abbrev pub all_forms : List Form
-all_forms = forms.Query ∷ []
+all_forms = forms.Query ∷ forms.Dump ∷ []
 
 -- the words that follow those of the places
 abbrev pub rest_of : Form → List (List ℕ) → List (List ℕ)
 rest_of form words = drop (length (places_of form)) words
+
+-- the word that is FILE
+abbrev pub file_of : Form → List (List ℕ) → List ℕ
+file_of form words = word_of operands.File (places_of form) words
 
 -- ---- what words ask
 
@@ -37,14 +43,21 @@ abbrev pub with_query : List ℕ → Result Query ℕ → Asked
 with_query file (Ok query) = asks.Command (commands.Query file query)
 with_query file (Err at) = asks.Wrong (length (places_of forms.Query) + at)
 
--- the command of words whose front is what the places want; or the place of the first wrong word behind it
-abbrev pub command_of : Form → List (List ℕ) → Asked
-command_of forms.Query words = with_query (word_of operands.File (places_of forms.Query) words) (queries.asked (rest_of forms.Query words))
+-- the place of the first word too many, where nothing may follow so many words of places
+abbrev pub too_many : ℕ → List (List ℕ) → Option ℕ
+too_many places [] = None
+too_many places (word ∷ rest) = Some places
 
 -- the command, unless a place is wrong
 abbrev pub unless_wrong : Option ℕ → Asked → Asked
 unless_wrong None asked = asked
 unless_wrong (Some at) asked = asks.Wrong at
+
+-- the command of words whose front is what the places want; or the place of the first wrong word behind it
+abbrev pub command_of : Form → List (List ℕ) → Asked
+command_of forms.Query words = with_query (file_of forms.Query words) (queries.asked (rest_of forms.Query words))
+command_of forms.Dump words =
+    unless_wrong (too_many (length (places_of forms.Dump)) (rest_of forms.Dump words)) (asks.Command (commands.Dump (file_of forms.Dump words)))
 
 -- what the words ask in a form: its command, or the place up to which they are of this form
 abbrev pub asked_in : Form → List (List ℕ) → Asked
@@ -69,14 +82,17 @@ asked words = asked_from all_forms words 0
 -- the files that a command reads, in order
 abbrev pub inputs_of : Command → List (List ℕ)
 inputs_of (commands.Query file query) = file ∷ []
+inputs_of (commands.Dump file) = file ∷ []
 
 -- the file that a command stores, if it stores one
 abbrev pub output_of : Command → Option (List ℕ)
 output_of (commands.Query file query) = None
+output_of (commands.Dump file) = None
 
 -- the most bytes of each file that a command reads
 abbrev pub most_of : Command → ℕ
 most_of (commands.Query file query) = FILE_LIMIT
+most_of (commands.Dump file) = FILE_LIMIT
 
 -- the place of the wrong word
 abbrev pub IsWrong : Asked → ℕ → Type 0

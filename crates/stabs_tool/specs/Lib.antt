@@ -3,6 +3,7 @@ pub mod Commands
 pub mod Outcomes
 pub mod Causes
 pub mod Inputs
+pub mod Dump
 pub mod Replies
 pub mod Carrying
 pub mod Deciding

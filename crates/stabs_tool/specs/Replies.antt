@@ -23,6 +23,7 @@ use Rattle.stabs_tool.specs.declared.inputs.Inputs.TheVariants.{All, Fault as Fa
 use Rattle.stabs_tool.specs.declared.outcome.Outcome.{Outcome}
 use Rattle.stabs_tool.specs.declared.outcome.TheConstants.{DONE}
 use Rattle.stabs_tool.specs.Words.{first}
+use Rattle.stabs_tool.specs.Dump.{dump_text}
 use Rattle.stabs_tool.specs.Commands.{asked, inputs_of, most_of}
 use Rattle.stabs_tool.specs.Inputs.{loaded_inputs, name_at}
 use Rattle.stabs_tool.specs.Outcomes.{printed, usage, absent, read_fault, limit, refused}
@@ -52,16 +53,23 @@ abbrev pub RepliesOnObject : List ℕ → Query → Object → Outcome → Type 
 RepliesOnObject name query object o = ((world : World) × IsWorld object world × RepliesOnWorld query world o)
     ⊎ ((f : Fault) × WorldFault object f × (o ≡ refused name f))
 
--- the reply on the bytes of a file: that of the object that they spell, or the refusal of the file
-abbrev pub RepliesOnBytes : List ℕ → Query → List ℕ → Outcome → Type 0
-RepliesOnBytes name query bytes o = IsBytes bytes × (((object : Object) × ObjectSpells object bytes × RepliesOnObject name query object o)
+-- ---- the object of a file
+
+-- what is said on the object that the bytes of a file spell, or the refusal of the file, which has this name
+abbrev pub OnObject : List ℕ → List ℕ → (Object → Outcome → Type 0) → Outcome → Type 0
+OnObject name bytes Says o = IsBytes bytes × (((object : Object) × ObjectSpells object bytes × Says object o)
     ⊎ ((f : Fault) × FileFault bytes f × (o ≡ refused name f)))
+
+-- the dump of an object
+abbrev pub Dumps : Object → Outcome → Type 0
+Dumps object o = o ≡ printed DONE (dump_text object)
 
 -- ---- any command
 
 -- the outcome of a command whose inputs have these contents
 abbrev pub Answers : Command → List (List ℕ) → Outcome → Type 0
-Answers (commands.Query file query) texts o = RepliesOnBytes file query (first texts) o
+Answers (commands.Query file query) texts o = OnObject file (first texts) (RepliesOnObject file query) o
+Answers (commands.Dump file) texts o = OnObject file (first texts) Dumps o
 
 -- the outcome of a command whose inputs come to this
 abbrev pub RepliesTo : Command → Inputs → Outcome → Type 0

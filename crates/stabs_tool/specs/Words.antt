@@ -17,6 +17,7 @@ is_text word = is_utf8 word
 -- the word that a keyword is
 abbrev pub keyword_text : Keyword → List ℕ
 keyword_text keywords.Query = codes "query"
+keyword_text keywords.Dump = codes "dump"
 
 -- ---- places
 

@@ -4,9 +4,10 @@ ghost use Rattle.std.specs.Prelude.{◌≡◌, ◌<◌, ◌^◌, length, IfOk};
 ghost use Rattle.stabs_tool.specs.Commands as commands;
 ghost use Rattle.stabs_tool.specs.Inputs.{IsPlaced};
 ghost use Rattle.stabs_tool.specs.Words as words;
-ghost use Rattle.stabs_tool.specs.Replies.{RepliesOnWorld, RepliesOnObject, RepliesOnBytes, Answers, RepliesTo};
+ghost use Rattle.stabs_tool.specs.Replies.{RepliesOnWorld, RepliesOnObject, OnObject, Dumps, Answers, RepliesTo};
 
 use crate::command::{Command, most_of};
+use crate::dump::dump_text;
 use crate::inputs::{Cause, Inputs};
 use crate::outcome::{DONE, Outcome, absent, limit, printed, read_fault, refused};
 use crate::reading::read_world;
@@ -37,11 +38,28 @@ fn on_object(alloc: Global, name: &[u8], query: &Query, object: &Object) -> Resu
 }
 
 /// The reply on the bytes of a file.
-fn on_bytes(alloc: Global, name: &[u8], query: &Query, bytes: &[u8]) -> Result<Outcome, Memory>
-    ensures { IfOk result (RepliesOnBytes name.now query.now bytes.now) }
+fn query_file(alloc: Global, name: &[u8], query: &Query, bytes: &[u8]) -> Result<Outcome, Memory>
+    ensures { IfOk result (OnObject name.now bytes.now (RepliesOnObject name.now query.now)) }
 {
     match decode(alloc, bytes) {
         Ok(object) => on_object(alloc, name, query, &object),
+        Err(Refused::At(fault)) => refused(alloc, name, fault),
+        Err(Refused::Memory) => Err(Memory),
+    }
+}
+
+fn dump_object(alloc: Global, object: &Object) -> Result<Outcome, Memory>
+    ensures { IfOk result (Dumps object.now) }
+{
+    Ok(printed(DONE, dump_text(alloc, object)?))
+}
+
+/// The dump of the bytes of a file.
+fn dump_file(alloc: Global, name: &[u8], bytes: &[u8]) -> Result<Outcome, Memory>
+    ensures { IfOk result (OnObject name.now bytes.now Dumps) }
+{
+    match decode(alloc, bytes) {
+        Ok(object) => dump_object(alloc, &object),
         Err(Refused::At(fault)) => refused(alloc, name, fault),
         Err(Refused::Memory) => Err(Memory),
     }
@@ -61,7 +79,8 @@ fn answer(alloc: Global, command: &Command, texts: &[Text]) -> Result<Outcome, M
     ensures { IfOk result (Answers command.now texts.now) }
 {
     match command {
-        Command::Query { file, query } => on_bytes(alloc, file.bytes(), query, first(texts)),
+        Command::Query { file, query } => query_file(alloc, file.bytes(), query, first(texts)),
+        Command::Dump { file } => dump_file(alloc, file.bytes(), first(texts)),
     }
 }
 

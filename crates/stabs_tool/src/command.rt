@@ -13,6 +13,8 @@ use std::alloc::Global;
 pub enum Command {
     /// `query FILE QUERY...`
     Query { file: Text, query: Query },
+    /// `dump FILE`
+    Dump { file: Text },
 }
 
 /// What the words of a line ask.
@@ -28,9 +30,11 @@ pub enum Asked {
 enum Form {
     /// `query FILE`, and the words of a query.
     Query,
+    /// `dump FILE`
+    Dump,
 }
 
-const FORMS: [Form; 1] = [Form::Query];
+const FORMS: [Form; 2] = [Form::Query, Form::Dump];
 
 /// What the places of a form want.
 fn places_of(form: Form) -> &'static [Want]
@@ -38,6 +42,27 @@ fn places_of(form: Form) -> &'static [Want]
 {
     match form {
         Form::Query => &[Want::This(Keyword::Query), Want::Any(Operand::File)],
+        Form::Dump => &[Want::This(Keyword::Dump), Want::Any(Operand::File)],
+    }
+}
+
+/// A copy of the word that is FILE.
+fn file_of(alloc: Global, form: Form, words: &List<Text>) -> Result<Text, Memory>
+    ensures { IfOk result (λ file. file ≡ spec.file_of form words.now) }
+{
+    text_of(alloc, places_of(form), words.items(), Operand::File)
+}
+
+/// The place of the first word too many, where nothing may follow the words of a form's places.
+fn too_many(form: Form, words: &List<Text>) -> Option<usize>
+    requires { length (spec.places_of form) ≤ length words.now }
+    ensures { result ≡ spec.too_many (length (spec.places_of form)) (spec.rest_of form words.now) }
+{
+    let places = places_of(form).len();
+    if places < words.len() {
+        Some(places)
+    } else {
+        None
     }
 }
 
@@ -46,10 +71,9 @@ fn asked_query(alloc: Global, words: &List<Text>) -> Result<Asked, Memory>
     requires { length (spec.places_of Form.Query) ≤ length words.now }
     ensures { IfOk result (λ asked. asked ≡ spec.command_of Form.Query words.now) }
 {
-    let places = places_of(Form::Query);
-    match read_query(alloc, words, places.len()) {
+    match read_query(alloc, words, places_of(Form::Query).len()) {
         Ok(query) => {
-            let file = text_of(alloc, places, words.items(), Operand::File)?;
+            let file = file_of(alloc, Form::Query, words)?;
             Ok(Asked::Command(Command::Query { file, query }))
         }
         Err(Refused::At(fault)) => Ok(Asked::Wrong(fault.place as usize)),
@@ -64,6 +88,13 @@ fn command_of(alloc: Global, form: Form, words: &List<Text>) -> Result<Asked, Me
 {
     match form {
         Form::Query => asked_query(alloc, words),
+        Form::Dump => match too_many(form, words) {
+            Some(at) => Ok(Asked::Wrong(at)),
+            None => {
+                let file = file_of(alloc, form, words)?;
+                Ok(Asked::Command(Command::Dump { file }))
+            }
+        },
     }
 }
 
@@ -98,6 +129,7 @@ pub fn inputs_of(alloc: Global, command: &Command) -> Result<List<Text>, Memory>
     let mut names = List::new(alloc);
     match command {
         Command::Query { file, query: _ } => names.push(file.copy(alloc)?)?,
+        Command::Dump { file } => names.push(file.copy(alloc)?)?,
     }
     Ok(names)
 }
@@ -108,5 +140,6 @@ pub fn most_of(command: &Command) -> u64
 {
     match command {
         Command::Query { file: _, query: _ } => FILE_LIMIT,
+        Command::Dump { file: _ } => FILE_LIMIT,
     }
 }

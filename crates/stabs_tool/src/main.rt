@@ -9,6 +9,7 @@ mod arguments;
 mod carry;
 mod command;
 mod decide;
+mod dump;
 mod inputs;
 mod laws;
 mod outcome;

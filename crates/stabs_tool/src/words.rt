@@ -11,6 +11,7 @@ use std::str::from_utf8;
 #[derive(Clone, Copy, Debug, Drop, PartialEq, Eq)]
 pub enum Keyword {
     Query,
+    Dump,
 }
 
 /// What a word of a command is to the command.
@@ -35,6 +36,7 @@ fn keyword_text(keyword: Keyword) -> &'static [u8]
 {
     match keyword {
         Keyword::Query => b"query",
+        Keyword::Dump => b"dump",
     }
 }
 

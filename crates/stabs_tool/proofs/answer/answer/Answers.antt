@@ -1,6 +1,15 @@
 use Rattle.std.proofs.Common.{rules}
-use Rattle.stabs_tool.proofs.Decisions.{by_query}
+use Rattle.stabs_tool.specs.declared.command.Command.TheVariants as commands
+use Rattle.stabs_tool.specs.Replies.{RepliesOnObject, Dumps}
+use Rattle.stabs_tool.proofs.Decisions.{by_command}
 use Rattle.stabs_tool.proofs.answer.answer.Goals as goal
 
-pub returns : goal.returns
-returns c = by_query c.args.command.now c.bytes.result.now _ c.args.texts.now c.first.result.now _ c.on_bytes.ensures c.first.ensures (search rules)
+pub returns-in-Query : goal.returns-in-Query
+returns-in-Query c =
+    by_command c.args.command.now (commands.Query c.bytes.result.now c.in-Query.query) c.args.texts.now c.bytes.result.now c.first.result.now
+    (RepliesOnObject c.bytes.result.now c.in-Query.query) c.query_file.result c.query_file.ensures c.first.ensures (search rules) (λ o said. said)
+
+pub returns-in-Dump : goal.returns-in-Dump
+returns-in-Dump c =
+    by_command c.args.command.now (commands.Dump c.bytes-in-Dump.result.now) c.args.texts.now c.bytes-in-Dump.result.now c.first-in-Dump.result.now
+    Dumps c.dump_file.result c.dump_file.ensures c.first-in-Dump.ensures (search rules) (λ o said. said)
