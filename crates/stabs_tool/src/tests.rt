@@ -157,7 +157,7 @@ fn put_header(out: &mut Text, big: bool, entries: u32) -> Result<(), Fail> {
 fn put_entry(out: &mut Text, big: bool, strx: u32, head: &[u8]) -> Result<(), Fail> {
     let (kind, rest) = cut(head, b'@');
     let (value, desc) = cut(rest, b'.');
-    let desc = number_of(16, desc) as u16;
+    let desc = u16::try_from(number_of(16, desc)).unwrap_or(0);
     put_word(out, big, strx)?;
     out.extend(&[byte_of(kind), 0])?;
     if big {
@@ -165,7 +165,7 @@ fn put_entry(out: &mut Text, big: bool, strx: u32, head: &[u8]) -> Result<(), Fa
     } else {
         out.extend(&desc.to_le_bytes())?;
     }
-    put_word(out, big, number_of(16, value) as u32)
+    put_word(out, big, u32::try_from(number_of(16, value)).unwrap_or(0))
 }
 
 /// An object with these entries.
