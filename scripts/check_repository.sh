@@ -77,8 +77,27 @@ ends crates/stabs_tool/data 5 'absent b.o' dump b.o
 reloc text 0 00000004 21 0 2 1
 21 01 00 0000 00000000 _f' ] || complain "stabs dump: other lines"
 
-# a file of one byte more than the limit
+# the source of both objects, what is listed of them, and sources that are refused
 folder=$(mktemp -d)
+cp crates/stabs_tool/data/a.s "$folder"
+for name in a.o a_big.o; do
+    order=little
+    [ "$name" = a.o ] || order=big
+    ends "$folder" 0 '' as "$order" a.s made.o
+    cmp -s "$folder/made.o" "crates/stabs_tool/data/$name" || complain "stabs as $order a.s: not $name"
+    "$stabs" list "crates/stabs_tool/data/$name" >"$folder/again.s"
+    ends "$folder" 0 '' as "$order" again.s again.o
+    cmp -s "$folder/again.o" "crates/stabs_tool/data/$name" || complain "stabs list $name: another object"
+done
+printf '.byte 1\n.bite 1\n' >"$folder/wrong.s"
+ends "$folder" 3 'refused wrong.s 70 2 0' as little wrong.s wrong.o
+[ -e "$folder/wrong.o" ] && complain "stabs as wrong.s: stored an object"
+ends "$folder" 7 'write fault' as little a.s .
+ends "$folder" 3 'refused a.s 1 0 0' list a.s
+
+# a source and a file of one byte more than their limits
+truncate -s 16777217 "$folder/long.s"
+ends "$folder" 9 'limit 16777216' as little long.s long.o
 truncate -s 134217729 "$folder/long.o"
 ends "$folder" 9 'limit 134217728' query long.o tag 0 list
 rm -r "$folder"

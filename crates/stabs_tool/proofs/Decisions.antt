@@ -1,5 +1,5 @@
 -- What was replied is decided on, with its causes: for words that are no command, and for a command by what its inputs came to.
-use Rattle.std.proofs.Common.{◌≡◌, ◌≢◌, ℕ, ◌⊎◌, inl, inr, Bool, true, false, List, [], ◌∷◌, Option, Some, None, Result, Ok, Err, refl, sym, ap, subst, ◌∙◌}
+use Rattle.std.proofs.Common.{if◌then◌else◌, ◌≡◌, ◌≢◌, ℕ, ◌⊎◌, inl, inr, Bool, true, false, List, [], ◌∷◌, Option, Some, None, Result, Ok, Err, refl, sym, ap, subst, ◌∙◌}
 use Rattle.std.specs.Prelude.{◌==◌, IfOk, IfSome}
 use Rattle.std.specs.List.{list_any}
 use Rattle.std.proofs.lemmas.Bool.{true≢false}
@@ -9,10 +9,15 @@ use Rattle.st_base.specs.Number.{IsBytes}
 use Rattle.st_base.specs.declared.fault.Fault.{Fault}
 use Rattle.st_base.specs.declared.sizes.TheConstants.{FILE_LIMIT}
 use Rattle.nlist_codec.specs.declared.named.Named.{Named}
-use Rattle.aout_object.specs.Objects.{ObjectSpells, named_of}
+use Rattle.aout_object.specs.Objects.{ObjectSpells, named_of, file_of}
 use Rattle.stab_units.specs.Worlds.{UnitsFault}
 use Rattle.aout_object.specs.Objects.{Contents as Object}
 use Rattle.aout_object.specs.Checks.{FileFault}
+use Rattle.st_base.specs.declared.fault.TheConstants.{TOO_LARGE}
+use Rattle.stabs_asm.specs.Assembling.{assembled}
+use Rattle.stabs_asm.specs.Lines.{read_source}
+use Rattle.stabs_asm.specs.Listing.{listing}
+use Rattle.stabs_tool.specs.Dump.{dump_text}
 use Rattle.type_graph.specs.declared.world.World.{World}
 use Rattle.query_text.specs.declared.query.Query.{Query}
 use Rattle.stabs_tool.specs.declared.command.Command.{Command}
@@ -27,11 +32,11 @@ use Rattle.stabs_tool.specs.declared.outcome.Outcome.{Outcome}
 use Rattle.stabs_tool.specs.declared.outcome.TheConstants.{DONE, USAGE, REFUSED, ABSENT, READ_FAULT, WRITE_FAULT, NO_MEMORY, LIMIT}
 use Rattle.stabs_tool.specs.Commands.{inputs_of, most_of, IsRead, IsWritten, IsWrong}
 use Rattle.stabs_tool.specs.Words.{first}
-use Rattle.stabs_tool.specs.Outcomes.{printed, usage, absent, read_fault, limit, refused, is_status}
+use Rattle.stabs_tool.specs.Outcomes.{printed, usage, absent, read_fault, limit, refused, kept, is_status}
 use Rattle.stabs_tool.specs.Causes.{FilesSeen}
 use Rattle.stabs_tool.specs.Inputs.{loaded_inputs, HasCause, IsFailed, IsPlaced, name_at}
 use Rattle.stabs_tool.specs.Deciding.{Decided}
-use Rattle.stabs_tool.specs.Replies.{text_end, WorldFault, RepliesOnWorld, RepliesOnObject, OnObject, Dumps, Answers, RepliesTo, Means}
+use Rattle.stabs_tool.specs.Replies.{text_end, WorldFault, RepliesOnWorld, RepliesOnObject, OnObject, Dumps, Lists, kept_object, Answers, RepliesTo, Means}
 
 -- ---- outcomes of one line
 
@@ -65,75 +70,102 @@ prints_refused name f = prints_of REFUSED _
 
 -- ---- outcomes that need no cause
 
--- the outcome has a status that needs no cause, and stores nothing
-record IsPlain (o : Outcome) : Type 0 where
+-- where nothing is stored, what is stored has any name
+unnamed : (P : List ℕ → Type 0) (content : Option Content) → content ≡ None → IfSome content (λ c. P c.name)
+unnamed P (Some c) e = absurd cc
+unnamed P None e = tt
+
+-- the outcome has a status that needs no cause, and stores nothing but under a name of these
+record IsPlain (Writes : List ℕ → Type 0) (o : Outcome) : Type 0 where
   pub status : is_status o.status ≡ true
-  pub alone : o.stored ≡ None
   pub not_usage : o.status ≢ USAGE
   pub not_absent : o.status ≢ ABSENT
   pub not_read : o.status ≢ READ_FAULT
   pub not_write : o.status ≢ WRITE_FAULT
   pub not_memory : o.status ≢ NO_MEMORY
+  pub stored_alone : o.status ≢ DONE → o.stored ≡ None
+  pub stored_name : IfSome o.stored (λ content. Writes content.name)
 
 -- the statuses of these
 is_plain : ℕ → Bool
 is_plain number = list_any (λ status. status == number) (DONE ∷ REFUSED ∷ LIMIT ∷ [])
 
 -- such a status is no other
-differs : (status : ℕ) (o : Outcome) → Prints status o → is_plain status ≡ true → (other : ℕ) → is_plain other ≡ false → o.status ≢ other
-differs status o p plain other none e = let same : status ≡ other = sym p.answers ∙ e in absurd (true≢false (sym plain ∙ ap is_plain same ∙ none))
+differs : (status : ℕ) (o : Outcome) → o.status ≡ status → is_plain status ≡ true → (other : ℕ) → is_plain other ≡ false → o.status ≢ other
+differs status o is plain other none e = let same : status ≡ other = sym is ∙ e in absurd (true≢false (sym plain ∙ ap is_plain same ∙ none))
 
--- an outcome with such a status is one
-plain_of : (status : ℕ) (o : Outcome) → Prints status o → is_status status ≡ true → is_plain status ≡ true → IsPlain o
-unfolding is_plain
-plain_of status o p listed plain = record {
-  status = ap is_status p.answers ∙ listed;
-  alone = p.alone;
-  not_usage = differs status o p plain USAGE refl;
-  not_absent = differs status o p plain ABSENT refl;
-  not_read = differs status o p plain READ_FAULT refl;
-  not_write = differs status o p plain WRITE_FAULT refl;
-  not_memory = differs status o p plain NO_MEMORY refl;
-}
+module _ (Writes : List ℕ → Type 0) where
+  -- an outcome with such a status is one
+  plain_of : (status : ℕ) (o : Outcome) → o.status ≡ status → is_status status ≡ true → is_plain status ≡ true → (o.status ≢ DONE → o.stored ≡ None)
+      → IfSome o.stored (λ content. Writes content.name) → IsPlain Writes o
+  unfolding is_plain
+  plain_of status o is listed plain alone named = record {
+    status = ap is_status is ∙ listed;
+    not_usage = differs status o is plain USAGE refl;
+    not_absent = differs status o is plain ABSENT refl;
+    not_read = differs status o is plain READ_FAULT refl;
+    not_write = differs status o is plain WRITE_FAULT refl;
+    not_memory = differs status o is plain NO_MEMORY refl;
+    stored_alone = alone;
+    stored_name = named;
+  }
 
-plain_done : (o : Outcome) → Prints DONE o → IsPlain o
-unfolding is_plain
-plain_done o p = plain_of DONE o p refl refl
+  -- one that stores nothing
+  prints_plain : (status : ℕ) (o : Outcome) → Prints status o → is_status status ≡ true → is_plain status ≡ true → IsPlain Writes o
+  prints_plain status o p listed plain = plain_of status o p.answers listed plain (λ _. p.alone) (unnamed Writes o.stored p.alone)
 
-plain_refused : (o : Outcome) → Prints REFUSED o → IsPlain o
-unfolding is_plain
-plain_refused o p = plain_of REFUSED o p refl refl
+  plain_done : (o : Outcome) → Prints DONE o → IsPlain Writes o
+  unfolding is_plain
+  plain_done o p = prints_plain DONE o p refl refl
 
-plain_limit : (o : Outcome) → Prints LIMIT o → IsPlain o
-unfolding is_plain
-plain_limit o p = plain_of LIMIT o p refl refl
+  plain_refused : (o : Outcome) → Prints REFUSED o → IsPlain Writes o
+  unfolding is_plain
+  plain_refused o p = prints_plain REFUSED o p refl refl
 
-on_world_plain : (query : Query) (world : World) (o : Outcome) → RepliesOnWorld query world o → IsPlain o
-on_world_plain query world o h = subst IsPlain (sym h.2) (plain_done (printed DONE _) (prints_of DONE _))
+  plain_limit : (o : Outcome) → Prints LIMIT o → IsPlain Writes o
+  unfolding is_plain
+  plain_limit o p = prints_plain LIMIT o p refl refl
 
-refused_plain : (name : List ℕ) (f : Fault) (o : Outcome) → o ≡ refused name f → IsPlain o
-refused_plain name f o h = subst IsPlain (sym h) (plain_refused (refused name f) (prints_refused name f))
+  -- one that stores under such a name
+  kept_plain : (name bytes : List ℕ) → Writes name → IsPlain Writes (kept name bytes)
+  unfolding is_plain
+  kept_plain name bytes named = plain_of DONE (kept name bytes) refl refl refl (λ other. absurd (other refl)) named
 
-world_plain : (name : List ℕ) (query : Query) (object : Object) (o : Outcome) → RepliesOnObject name query object o → IsPlain o
-world_plain name query object o (inl h) = on_world_plain query h.0 o h.2
-world_plain name query object o (inr h) = refused_plain name h.0 o h.2
+  on_world_plain : (query : Query) (world : World) (o : Outcome) → RepliesOnWorld query world o → IsPlain Writes o
+  on_world_plain query world o h = subst (IsPlain Writes) (sym h.2) (plain_done (printed DONE _) (prints_of DONE _))
 
-dump_plain : (object : Object) (o : Outcome) → Dumps object o → IsPlain o
-dump_plain object o h = subst IsPlain (sym h) (plain_done (printed DONE _) (prints_of DONE _))
+  refused_plain : (name : List ℕ) (f : Fault) (o : Outcome) → o ≡ refused name f → IsPlain Writes o
+  refused_plain name f o h = subst (IsPlain Writes) (sym h) (plain_refused (refused name f) (prints_refused name f))
 
-object_plain : (name bytes : List ℕ) (Says : Object → Outcome → Type 0) → ((object : Object) (o : Outcome) → Says object o → IsPlain o)
-    → (o : Outcome) → OnObject name bytes Says o → IsPlain o
-object_plain name bytes Says plain o (are, inl h) = plain h.0 o h.2
-object_plain name bytes Says plain o (are, inr h) = refused_plain name h.0 o h.2
+  world_plain : (name : List ℕ) (query : Query) (object : Object) (o : Outcome) → RepliesOnObject name query object o → IsPlain Writes o
+  world_plain name query object o (inl h) = on_world_plain query h.0 o h.2
+  world_plain name query object o (inr h) = refused_plain name h.0 o h.2
 
-answers_plain : (command : Command) (texts : List (List ℕ)) (o : Outcome) → Answers command texts o → IsPlain o
-answers_plain (commands.Query file query) texts o h = object_plain file (first texts) (RepliesOnObject file query) (world_plain file query) o h
-answers_plain (commands.Dump file) texts o h = object_plain file (first texts) Dumps dump_plain o h
+  text_plain : (text : List ℕ) (o : Outcome) → o ≡ printed DONE text → IsPlain Writes o
+  text_plain text o h = subst (IsPlain Writes) (sym h) (plain_done (printed DONE text) (prints_of DONE text))
 
--- where nothing is stored, what is stored has any name
-unnamed : (P : List ℕ → Type 0) (content : Option Content) → content ≡ None → IfSome content (λ c. P c.name)
-unnamed P (Some c) e = absurd cc
-unnamed P None e = tt
+  object_plain : (name bytes : List ℕ) (Says : Object → Outcome → Type 0) → ((object : Object) (o : Outcome) → Says object o → IsPlain Writes o)
+      → (o : Outcome) → OnObject name bytes Says o → IsPlain Writes o
+  object_plain name bytes Says plain o (are, inl h) = plain h.0 o h.2
+  object_plain name bytes Says plain o (are, inr h) = refused_plain name h.0 o h.2
+
+  -- a fault that may be a limit
+  either_plain : (name : List ℕ) (f : Fault) (large : Bool) → IsPlain Writes (if large then limit f.place else refused name f)
+  either_plain name f true = plain_limit (limit f.place) (prints_limit f.place)
+  either_plain name f false = refused_plain name f (refused name f) refl
+
+  kept_object_plain : (name out : List ℕ) → Writes out → (made : Result Object Fault) → IsPlain Writes (kept_object name out made)
+  kept_object_plain name out named (Ok object) = kept_plain out (file_of object) named
+  kept_object_plain name out named (Err f) = either_plain name f (f.number == TOO_LARGE)
+
+answers_plain : (command : Command) (texts : List (List ℕ)) (o : Outcome) → Answers command texts o → IsPlain (IsWritten (asks.Command command)) o
+answers_plain (commands.Query file query) texts o h =
+    object_plain _ file (first texts) (RepliesOnObject file query) (world_plain _ file query) o h
+answers_plain (commands.Dump file) texts o h = object_plain _ file (first texts) Dumps (λ object. text_plain _ (dump_text object)) o h
+answers_plain (commands.List file) texts o h = object_plain _ file (first texts) Lists (λ object. text_plain _ (listing object)) o h
+answers_plain (commands.As order file out) texts o h =
+    let made = assembled order (read_source (first texts)) in
+    subst (IsPlain (IsWritten (asks.Command (commands.As order file out)))) (sym h) (kept_object_plain _ file out refl made)
 
 -- what is decided on, the files being f before and g after it
 abbrev pub IsDecided : Asked → FilesSeen → FilesSeen → Outcome → Type 0
@@ -184,7 +216,7 @@ module _ (command : Command) where
       by_told (inl failed) = absurd (well failed)
       by_told (inr e) = subst (λ (z : Inputs). RepliesTo command z o) e r
 
-    plain : (inputs : Inputs) (o : Outcome) → IsPlain o → Told f inputs → ¬ (IsFailed inputs) → RepliesTo command inputs o → Goal o
+    plain : (inputs : Inputs) (o : Outcome) → IsPlain (IsWritten (asks.Command command)) o → Told f inputs → ¬ (IsFailed inputs) → RepliesTo command inputs o → Goal o
     plain inputs o p t well r = record {
       defined = λ _. means inputs o t well r;
       read = λ e. absurd (p.not_read e);
@@ -194,8 +226,8 @@ module _ (command : Command) where
       status = p.status;
       not_write = p.not_write;
       not_memory = p.not_memory;
-      stored_alone = λ _. p.alone;
-      stored_name = unnamed (IsWritten (asks.Command command)) o.stored p.alone;
+      stored_alone = p.stored_alone;
+      stored_name = p.stored_name;
     }
 
     absent_decided : (at : ℕ) → Told f (Faulty at cause.Absent) → HasCause f.held f.loads g.loads g.last names (Faulty at cause.Absent) → Goal (absent (name_at names at))
@@ -233,9 +265,9 @@ module _ (command : Command) where
     by_inputs : (inputs : Inputs) → Told f inputs → HasCause f.held f.loads g.loads g.last names inputs → (o : Outcome) → RepliesTo command inputs o → Goal o
     by_inputs (All texts) t h o r = plain (All texts) o (answers_plain command texts o r) t (λ x. x) r
     by_inputs (Faulty at cause.Absent) t h o r = subst Goal (sym r) (absent_decided at t h)
-    by_inputs (Faulty at cause.Long) t h o r = plain (Faulty at cause.Long) o (subst IsPlain (sym r) (plain_limit (limit (most_of command)) (prints_limit (most_of command)))) t (λ x. x) r
+    by_inputs (Faulty at cause.Long) t h o r = plain (Faulty at cause.Long) o (subst (IsPlain (IsWritten (asks.Command command))) (sym r) (plain_limit _ (limit (most_of command)) (prints_limit (most_of command)))) t (λ x. x) r
     by_inputs (Faulty at cause.Failed) t h o r = subst Goal (sym r) (failed_decided at h)
-    by_inputs TooMuch t h o r = plain TooMuch o (subst IsPlain (sym r) (plain_limit (limit FILE_LIMIT) (prints_limit FILE_LIMIT))) t (λ x. x) r
+    by_inputs TooMuch t h o r = plain TooMuch o (subst (IsPlain (IsWritten (asks.Command command))) (sym r) (plain_limit _ (limit FILE_LIMIT) (prints_limit FILE_LIMIT))) t (λ x. x) r
 
     by_result : {E : Type 0} (inputs : Inputs) (res : Result Outcome E) → Told f inputs → HasCause f.held f.loads g.loads g.last names inputs → IfOk res (RepliesTo command inputs) → IfOk res Goal
     by_result inputs (Err e) t h r = tt

@@ -26,12 +26,15 @@ use Rattle.stabs_tool.specs.declared.inputs.Inputs.{Inputs}
 use Rattle.stabs_tool.specs.declared.inputs.Inputs.TheVariants.{All, Fault as Faulty, TooMuch}
 use Rattle.stabs_tool.specs.declared.outcome.Outcome.{Outcome}
 use Rattle.stabs_tool.specs.declared.outcome.TheConstants.{DONE}
+use Rattle.stabs_asm.specs.Assembling.{assembled}
+use Rattle.stabs_asm.specs.Lines.{read_source}
+use Rattle.stabs_asm.specs.Listing.{listing}
 use Rattle.stabs_tool.specs.Dump.{dump_text}
 use Rattle.stabs_tool.specs.Words.{first}
 use Rattle.stabs_tool.specs.Commands.{asked, inputs_of, most_of}
 use Rattle.stabs_tool.specs.Inputs.{loaded_inputs, inputs_from, after_content, name_at}
 use Rattle.stabs_tool.specs.Outcomes.{printed, usage, absent, read_fault, limit, refused}
-use Rattle.stabs_tool.specs.Replies.{text_end, RepliesOnWorld, RepliesOnObject, OnObject, Dumps, Answers, RepliesTo, Means, IsOutcome, AreBytes}
+use Rattle.stabs_tool.specs.Replies.{text_end, RepliesOnWorld, RepliesOnObject, OnObject, Dumps, Lists, kept_object, Answers, RepliesTo, Means, IsOutcome, AreBytes}
 
 -- ---- what is loaded is bytes
 
@@ -101,6 +104,8 @@ module _ (some : (end : ℕ) (entries : List Named) → ((units : List UnitOf) �
   an_answer : (command : Command) (texts : List (List ℕ)) → AllBytes texts → (o : Outcome) × Answers command texts o
   an_answer (commands.Query file query) texts all = on_file file (first texts) (RepliesOnObject file query) (on_object file query) (first_bytes texts all)
   an_answer (commands.Dump file) texts all = on_file file (first texts) Dumps (λ object. (printed DONE (dump_text object), refl)) (first_bytes texts all)
+  an_answer (commands.List file) texts all = on_file file (first texts) Lists (λ object. (printed DONE (listing object), refl)) (first_bytes texts all)
+  an_answer (commands.As order file out) texts all = (kept_object file out (assembled order (read_source (first texts))), refl)
 
   a_result : (command : Command) (inputs : Inputs) → HasBytes inputs → (o : Outcome) × RepliesTo command inputs o
   a_result command (All texts) all = an_answer command texts all

@@ -26,7 +26,7 @@ use Rattle.stabs_tool.specs.declared.outcome.TheConstants.{DONE}
 use Rattle.stabs_tool.specs.Words.{first}
 use Rattle.stabs_tool.specs.Commands.{asked}
 use Rattle.stabs_tool.specs.Outcomes.{printed, refused}
-use Rattle.stabs_tool.specs.Replies.{text_end, RepliesOnWorld, RepliesOnObject, OnObject, Dumps, Answers, RepliesTo, Means, IsOutcome}
+use Rattle.stabs_tool.specs.Replies.{text_end, RepliesOnWorld, RepliesOnObject, OnObject, Dumps, Lists, Answers, RepliesTo, Means, IsOutcome}
 
 -- ---- one world
 
@@ -74,6 +74,8 @@ module _ (one_list : (end : ℕ) (entries : List Named) (us vs : List Unit) → 
     answers_once : (command : Command) (texts : List (List ℕ)) (o other : Outcome) → Answers command texts o → Answers command texts other → o ≡ other
     answers_once (commands.Query file query) texts o other p q = on_file_once file (first texts) (RepliesOnObject file query) (on_object_once file query) o other p q
     answers_once (commands.Dump file) texts o other p q = on_file_once file (first texts) Dumps (λ object one two h k. h ∙ sym k) o other p q
+    answers_once (commands.List file) texts o other p q = on_file_once file (first texts) Lists (λ object one two h k. h ∙ sym k) o other p q
+    answers_once (commands.As order file out) texts o other p q = p ∙ sym q
 
     replies_once : (command : Command) (inputs : Inputs) (o other : Outcome) → RepliesTo command inputs o → RepliesTo command inputs other → o ≡ other
     replies_once command (All texts) o other p q = answers_once command texts o other p q

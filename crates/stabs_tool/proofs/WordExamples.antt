@@ -10,7 +10,8 @@ use Rattle.stabs_tool.specs.declared.command.Command.TheVariants as commands
 use Rattle.stabs_tool.specs.declared.command.Asked.TheVariants as asks
 use Rattle.readers.specs.Words.{number_at, digits_on}
 use Rattle.stabs_tool.specs.Words.{is_text}
-use Rattle.stabs_tool.specs.Commands.{asked, inputs_of}
+use Rattle.st_base.specs.declared.order.Order.TheVariants.{Big}
+use Rattle.stabs_tool.specs.Commands.{asked, inputs_of, output_of}
 
 -- ---- texts of ASCII are UTF-8
 
@@ -99,3 +100,36 @@ no_text word none = rw (query_text, none) refl
 -- what is asked is not the other way round
 not_the_other : asked (line (codes "0")) ≡ asks.Wrong 3 → ⊥
 not_the_other e = let is = a_query in absurd cc
+
+-- ---- sources and objects
+
+as_text : is_utf8 (codes "as") ≡ true
+unfolding all_ascii
+as_text = text (codes "as") refl
+
+big_text : is_utf8 (codes "big") ≡ true
+unfolding all_ascii
+big_text = text (codes "big") refl
+
+list_text : is_utf8 (codes "list") ≡ true
+unfolding all_ascii
+list_text = text (codes "list") refl
+
+an_assembly : asked (codes "as" ∷ codes "big" ∷ codes "a.o" ∷ codes "list" ∷ []) ≡ asks.Command (commands.As Big (codes "a.o") (codes "list"))
+an_assembly = rw (as_text, big_text, file_text, list_text) refl
+
+-- the file that is read and the one that is stored
+an_assembled_input : inputs_of (commands.As Big (codes "a.o") (codes "list")) ≡ codes "a.o" ∷ []
+an_assembled_input = refl
+
+an_output : output_of (commands.As Big (codes "a.o") (codes "list")) ≡ Some (codes "list")
+an_output = refl
+
+no_order : asked (codes "as" ∷ codes "list" ∷ codes "a.o" ∷ []) ≡ asks.Wrong 1
+no_order = rw (as_text, list_text) refl
+
+no_output : asked (codes "as" ∷ codes "big" ∷ codes "a.o" ∷ []) ≡ asks.Wrong 3
+no_output = rw (as_text, big_text, file_text) refl
+
+a_listing : asked (codes "list" ∷ codes "a.o" ∷ []) ≡ asks.Command (commands.List (codes "a.o"))
+a_listing = rw (list_text, file_text) refl

@@ -1,10 +1,13 @@
 -- The commands: the words of each, the files that it reads and the one that it stores. This is this project's own.
-use Rattle.std.specs.Prelude.{◌≡◌, ℕ, ◌+◌, max, List, [], ◌∷◌, length, drop, Option, Some, None, Contains, Result, Ok, Err}
+use Rattle.std.specs.Prelude.{◌≡◌, ℕ, ◌+◌, max, List, [], ◌∷◌, length, drop, Option, Some, None, unwrap_or, Contains, Result, Ok, Err}
 use Rattle.st_base.specs.declared.sizes.TheConstants.{FILE_LIMIT}
+use Rattle.stabs_asm.specs.declared.limits.TheConstants.{SOURCE_LIMIT}
+use Rattle.st_base.specs.declared.order.Order.{Order}
+use Rattle.st_base.specs.declared.order.Order.TheVariants.{Little}
 use Rattle.query_text.specs.declared.query.Query.{Query}
 use Rattle.query_text.specs.Queries as queries
 use Rattle.stabs_tool.specs.declared.words.Want.{Want}
-use Rattle.stabs_tool.specs.declared.words.Want.TheVariants.{This, Any}
+use Rattle.stabs_tool.specs.declared.words.Want.TheVariants.{This, Any, Order as Order'}
 use Rattle.stabs_tool.specs.declared.words.Keyword.TheVariants as keywords
 use Rattle.stabs_tool.specs.declared.words.Operand.TheVariants as operands
 use Rattle.stabs_tool.specs.declared.command.Form.{Form}
@@ -13,7 +16,7 @@ use Rattle.stabs_tool.specs.declared.command.Command.{Command}
 use Rattle.stabs_tool.specs.declared.command.Command.TheVariants as commands
 use Rattle.stabs_tool.specs.declared.command.Asked.{Asked}
 use Rattle.stabs_tool.specs.declared.command.Asked.TheVariants as asks
-use Rattle.stabs_tool.specs.Words.{word_of, wrong_front}
+use Rattle.stabs_tool.specs.Words.{word_of, wrong_front, order_of}
 
 -- ---- the forms of command lines
 
@@ -23,10 +26,14 @@ abbrev pub places_of : Form → List Want
 places_of forms.Query = This keywords.Query ∷ Any operands.File ∷ []
 -- `dump FILE`
 places_of forms.Dump = This keywords.Dump ∷ Any operands.File ∷ []
+-- `list FILE`
+places_of forms.List = This keywords.List ∷ Any operands.File ∷ []
+-- `as ORDER IN OUT`
+places_of forms.As = This keywords.As ∷ Order' ∷ Any operands.File ∷ Any operands.Out ∷ []
 
 -- all forms
 abbrev pub all_forms : List Form
-all_forms = forms.Query ∷ forms.Dump ∷ []
+all_forms = forms.Query ∷ forms.Dump ∷ forms.List ∷ forms.As ∷ []
 
 -- the words that follow those of the places
 abbrev pub rest_of : Form → List (List ℕ) → List (List ℕ)
@@ -35,6 +42,14 @@ rest_of form words = drop (length (places_of form)) words
 -- the word that is FILE
 abbrev pub file_of : Form → List (List ℕ) → List ℕ
 file_of form words = word_of operands.File (places_of form) words
+
+-- the word that is OUT
+abbrev pub out_of : Form → List (List ℕ) → List ℕ
+out_of form words = word_of operands.Out (places_of form) words
+
+-- the byte order that ORDER names
+abbrev pub order_in : Form → List (List ℕ) → Order
+order_in form words = unwrap_or (order_of (word_of operands.Order (places_of form) words)) Little
 
 -- ---- what words ask
 
@@ -53,11 +68,16 @@ abbrev pub unless_wrong : Option ℕ → Asked → Asked
 unless_wrong None asked = asked
 unless_wrong (Some at) asked = asks.Wrong at
 
+-- the command of words that are those of the places alone
+abbrev pub alone : Form → List (List ℕ) → Command → Asked
+alone form words command = unless_wrong (too_many (length (places_of form)) (rest_of form words)) (asks.Command command)
+
 -- the command of words whose front is what the places want; or the place of the first wrong word behind it
 abbrev pub command_of : Form → List (List ℕ) → Asked
 command_of forms.Query words = with_query (file_of forms.Query words) (queries.asked (rest_of forms.Query words))
-command_of forms.Dump words =
-    unless_wrong (too_many (length (places_of forms.Dump)) (rest_of forms.Dump words)) (asks.Command (commands.Dump (file_of forms.Dump words)))
+command_of forms.Dump words = alone forms.Dump words (commands.Dump (file_of forms.Dump words))
+command_of forms.List words = alone forms.List words (commands.List (file_of forms.List words))
+command_of forms.As words = alone forms.As words (commands.As (order_in forms.As words) (file_of forms.As words) (out_of forms.As words))
 
 -- what the words ask in a form: its command, or the place up to which they are of this form
 abbrev pub asked_in : Form → List (List ℕ) → Asked
@@ -83,16 +103,22 @@ asked words = asked_from all_forms words 0
 abbrev pub inputs_of : Command → List (List ℕ)
 inputs_of (commands.Query file query) = file ∷ []
 inputs_of (commands.Dump file) = file ∷ []
+inputs_of (commands.List file) = file ∷ []
+inputs_of (commands.As order file out) = file ∷ []
 
 -- the file that a command stores, if it stores one
 abbrev pub output_of : Command → Option (List ℕ)
 output_of (commands.Query file query) = None
 output_of (commands.Dump file) = None
+output_of (commands.List file) = None
+output_of (commands.As order file out) = Some out
 
 -- the most bytes of each file that a command reads
 abbrev pub most_of : Command → ℕ
 most_of (commands.Query file query) = FILE_LIMIT
 most_of (commands.Dump file) = FILE_LIMIT
+most_of (commands.List file) = FILE_LIMIT
+most_of (commands.As order file out) = SOURCE_LIMIT
 
 -- the place of the wrong word
 abbrev pub IsWrong : Asked → ℕ → Type 0

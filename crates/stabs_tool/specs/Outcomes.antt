@@ -1,9 +1,10 @@
 -- What a run comes to: a status, what is printed, and what is stored. Each line ends in a line feed; names stand in their shown
 -- form. Statuses and texts are this project's own.
-use Rattle.std.specs.Prelude.{ℕ, Bool, ◌==◌, List, [], ◌∷◌, ◌++◌, codes, decimal, Option, Some, None}
+use Rattle.std.specs.Prelude.{ℕ, Bool, ◌==◌, if◌then◌else◌, List, [], ◌∷◌, ◌++◌, codes, decimal, Option, Some, None}
 use Rattle.std.specs.List.{list_any}
 use Rattle.std.specs.FinMap.{insert}
 use Rattle.st_base.specs.declared.fault.Fault.{Fault}
+use Rattle.st_base.specs.declared.fault.TheConstants.{TOO_LARGE}
 use Rattle.st_base.specs.Shown.{shown}
 use Rattle.outside.specs.Causes.{Contents}
 use Rattle.stabs_tool.specs.declared.outcome.Content.{Content}
@@ -53,11 +54,19 @@ fault_text f = decimal f.number ++ 32 ∷ decimal f.place ++ 32 ∷ decimal f.wi
 unfoldable pub refused : List ℕ → Fault → Outcome
 refused name f = line REFUSED (codes "refused " ++ shown name ++ 32 ∷ fault_text f)
 
+-- the line of a fault of an input: `limit M` where a size passes its limit, which is its place, else `refused NAME N P W`
+abbrev pub refused_or_limit : List ℕ → Fault → Outcome
+refused_or_limit name f = if f.number == TOO_LARGE then limit f.place else refused name f
+
 -- the line that is printed where storing failed
 abbrev pub write_fault_text : List ℕ
 write_fault_text = codes "write fault\n"
 
 -- ---- what is stored
+
+-- these bytes are stored under a name, and nothing is printed
+abbrev pub kept : List ℕ → List ℕ → Outcome
+kept name bytes = record { status = DONE; text = []; stored = Some (record { name = name; bytes = bytes }) }
 
 -- the contents after something was stored, or nothing
 abbrev pub contents_after : Contents → Option Content → Contents

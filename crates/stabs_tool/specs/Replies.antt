@@ -1,11 +1,11 @@
 -- The outcome of words over files that tell their contents and do not fail. This is this project's own.
-use Rattle.std.specs.Prelude.{◌≡◌, ◌⊎◌, ◌+◌, ℕ, List, length, Some}
+use Rattle.std.specs.Prelude.{◌≡◌, ◌⊎◌, ◌+◌, ℕ, List, length, Some, Result, Ok, Err}
 use Rattle.std.specs.FinMap.{get}
 use Rattle.outside.specs.Causes.{Contents}
 use Rattle.st_base.specs.Number.{IsBytes}
 use Rattle.st_base.specs.declared.fault.Fault.{Fault}
 use Rattle.st_base.specs.declared.sizes.TheConstants.{FILE_LIMIT}
-use Rattle.aout_object.specs.Objects.{ObjectSpells, named_of}
+use Rattle.aout_object.specs.Objects.{ObjectSpells, named_of, file_of}
 use Rattle.aout_object.specs.Objects.{Contents as Object}
 use Rattle.aout_object.specs.Checks.{FileFault}
 use Rattle.stab_units.specs.Worlds.{UnitsFault}
@@ -13,6 +13,9 @@ use Rattle.type_graph.specs.declared.world.World.{World}
 use Rattle.type_graph.specs.Worlds.{IsWorldOf}
 use Rattle.query_text.specs.declared.query.Query.{Query}
 use Rattle.query_text.specs.Replies as replies
+use Rattle.stabs_asm.specs.Assembling.{assembled}
+use Rattle.stabs_asm.specs.Lines.{read_source}
+use Rattle.stabs_asm.specs.Listing.{listing}
 use Rattle.stabs_tool.specs.declared.command.Command.{Command}
 use Rattle.stabs_tool.specs.declared.command.Command.TheVariants as commands
 use Rattle.stabs_tool.specs.declared.command.Asked.{Asked}
@@ -26,7 +29,7 @@ use Rattle.stabs_tool.specs.Words.{first}
 use Rattle.stabs_tool.specs.Dump.{dump_text}
 use Rattle.stabs_tool.specs.Commands.{asked, inputs_of, most_of}
 use Rattle.stabs_tool.specs.Inputs.{loaded_inputs, name_at}
-use Rattle.stabs_tool.specs.Outcomes.{printed, usage, absent, read_fault, limit, refused}
+use Rattle.stabs_tool.specs.Outcomes.{printed, usage, absent, read_fault, limit, refused, refused_or_limit, kept}
 
 -- ---- the world of an object
 
@@ -64,12 +67,25 @@ OnObject name bytes Says o = IsBytes bytes × (((object : Object) × ObjectSpell
 abbrev pub Dumps : Object → Outcome → Type 0
 Dumps object o = o ≡ printed DONE (dump_text object)
 
+-- the assembly of an object
+abbrev pub Lists : Object → Outcome → Type 0
+Lists object o = o ≡ printed DONE (listing object)
+
+-- ---- an assembly source
+
+-- the file of what was assembled is stored, or the source, which has this name, is refused
+abbrev pub kept_object : List ℕ → List ℕ → Result Object Fault → Outcome
+kept_object name out (Ok object) = kept out (file_of object)
+kept_object name out (Err f) = refused_or_limit name f
+
 -- ---- any command
 
 -- the outcome of a command whose inputs have these contents
 abbrev pub Answers : Command → List (List ℕ) → Outcome → Type 0
 Answers (commands.Query file query) texts o = OnObject file (first texts) (RepliesOnObject file query) o
 Answers (commands.Dump file) texts o = OnObject file (first texts) Dumps o
+Answers (commands.List file) texts o = OnObject file (first texts) Lists o
+Answers (commands.As order file out) texts o = o ≡ kept_object file out (assembled order (read_source (first texts)))
 
 -- the outcome of a command whose inputs come to this
 abbrev pub RepliesTo : Command → Inputs → Outcome → Type 0

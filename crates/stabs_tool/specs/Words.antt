@@ -1,12 +1,14 @@
 -- The words of a command line: what each place of a command wants, and which word is wrong. This is this project's own.
-use Rattle.std.specs.Prelude.{ℕ, ◌+◌, Bool, false, true, ◌&&◌, if◌then◌else◌, List, [], ◌∷◌, length, take, codes, Option, Some, None}
+use Rattle.std.specs.Prelude.{ℕ, ◌+◌, Bool, false, true, ◌&&◌, if◌then◌else◌, List, [], ◌∷◌, length, take, codes, Option, Some, None, is_some}
 use Rattle.std.specs.Str.{bytes_eq, is_utf8}
+use Rattle.st_base.specs.declared.order.Order.{Order}
+use Rattle.st_base.specs.declared.order.Order.TheVariants as orders
 use Rattle.stabs_tool.specs.declared.words.Keyword.{Keyword}
 use Rattle.stabs_tool.specs.declared.words.Keyword.TheVariants as keywords
 use Rattle.stabs_tool.specs.declared.words.Operand.{Operand}
 use Rattle.stabs_tool.specs.declared.words.Operand.TheVariants as operands
 use Rattle.stabs_tool.specs.declared.words.Want.{Want}
-use Rattle.stabs_tool.specs.declared.words.Want.TheVariants.{This, Any}
+use Rattle.stabs_tool.specs.declared.words.Want.TheVariants.{This, Any, Order as Order'}
 
 -- ---- words
 
@@ -18,6 +20,13 @@ is_text word = is_utf8 word
 abbrev pub keyword_text : Keyword → List ℕ
 keyword_text keywords.Query = codes "query"
 keyword_text keywords.Dump = codes "dump"
+keyword_text keywords.List = codes "list"
+keyword_text keywords.As = codes "as"
+
+-- the byte order that a word names
+abbrev pub order_of : List ℕ → Option Order
+order_of word =
+    if bytes_eq word (codes "little") then Some orders.Little else (if bytes_eq word (codes "big") then Some orders.Big else None)
 
 -- ---- places
 
@@ -25,6 +34,7 @@ keyword_text keywords.Dump = codes "dump"
 abbrev pub is_wanted : Want → List ℕ → Bool
 is_wanted (This keyword) word = bytes_eq word (keyword_text keyword)
 is_wanted (Any operand) word = true
+is_wanted Order' word = is_some (order_of word)
 
 -- the place holds what it wants, and that is UTF-8
 abbrev pub holds : Want → List ℕ → Bool
@@ -51,11 +61,15 @@ wrong_front places words = wrong_place places (take (length places) words)
 -- the two are one operand
 abbrev pub same_operand : Operand → Operand → Bool
 same_operand operands.File operands.File = true
+same_operand operands.Out operands.Out = true
+same_operand operands.Order operands.Order = true
+same_operand _ _ = false
 
 -- the place wants this operand
 abbrev pub is_operand : Operand → Want → Bool
 is_operand operand (This keyword) = false
 is_operand operand (Any other) = same_operand operand other
+is_operand operand Order' = same_operand operand operands.Order
 
 -- the first word of a line; empty where there is none
 abbrev pub first : List (List ℕ) → List ℕ

@@ -1,19 +1,24 @@
 //! The outcome of a command over what its inputs came to.
 
-ghost use Rattle.std.specs.Prelude.{◌≡◌, ◌<◌, ◌^◌, length, IfOk};
+ghost use Rattle.std.specs.Prelude.{◌≡◌, ◌<◌, ◌^◌, length, IfOk, Ok};
 ghost use Rattle.stabs_tool.specs.Commands as commands;
 ghost use Rattle.stabs_tool.specs.Inputs.{IsPlaced};
 ghost use Rattle.stabs_tool.specs.Words as words;
-ghost use Rattle.stabs_tool.specs.Replies.{RepliesOnWorld, RepliesOnObject, OnObject, Dumps, Answers, RepliesTo};
+ghost use Rattle.stabs_tool.specs.Replies.{RepliesOnWorld, RepliesOnObject, OnObject, Dumps, Lists, Answers, RepliesTo, kept_object};
+ghost use Rattle.stabs_asm.specs.Assembling.{assembled};
+ghost use Rattle.stabs_asm.specs.Lines.{read_source};
 
 use crate::command::{Command, most_of};
 use crate::dump::dump_text;
 use crate::inputs::{Cause, Inputs};
-use crate::outcome::{DONE, Outcome, absent, limit, printed, read_fault, refused};
+use crate::outcome::{
+    DONE, Outcome, absent, kept, limit, printed, read_fault, refused, refused_or_limit,
+};
 use crate::reading::read_world;
-use aout_object::{Object, decode};
+use aout_object::{Object, decode, encode};
 use query_text::{Query, reply_text};
-use st_base::{FILE_LIMIT, Memory, Refused, Text};
+use st_base::{FILE_LIMIT, Memory, Order, Refused, Text};
+use stabs_asm::{assemble, list};
 use std::alloc::Global;
 use type_graph::World;
 
@@ -65,6 +70,48 @@ fn dump_file(alloc: Global, name: &[u8], bytes: &[u8]) -> Result<Outcome, Memory
     }
 }
 
+fn list_object(alloc: Global, object: &Object) -> Result<Outcome, Memory>
+    ensures { IfOk result (Lists object.now) }
+{
+    Ok(printed(DONE, list(alloc, object)?))
+}
+
+/// The assembly of the bytes of a file.
+fn list_file(alloc: Global, name: &[u8], bytes: &[u8]) -> Result<Outcome, Memory>
+    ensures { IfOk result (OnObject name.now bytes.now Lists) }
+{
+    match decode(alloc, bytes) {
+        Ok(object) => list_object(alloc, &object),
+        Err(Refused::At(fault)) => refused(alloc, name, fault),
+        Err(Refused::Memory) => Err(Memory),
+    }
+}
+
+/// The file of an object is to be stored.
+fn keep_object(alloc: Global, name: &[u8], out: &[u8], object: &Object) -> Result<Outcome, Memory>
+    ensures { IfOk result (λ o. o ≡ kept_object name.now out.now (Ok object.now)) }
+{
+    let file = encode(alloc, object)?;
+    kept(alloc, out, file)
+}
+
+/// The file of an assembled source is to be stored.
+fn assemble_source(
+    alloc: Global,
+    order: Order,
+    name: &[u8],
+    out: &[u8],
+    source: &[u8],
+) -> Result<Outcome, Memory>
+    ensures { IfOk result (λ o. o ≡ kept_object name.now out.now (assembled order (read_source source.now))) }
+{
+    match assemble(alloc, source, order) {
+        Ok(object) => keep_object(alloc, name, out, &object),
+        Err(Refused::At(fault)) => refused_or_limit(alloc, name, fault),
+        Err(Refused::Memory) => Err(Memory),
+    }
+}
+
 fn first(texts: &[Text]) -> &[u8]
     ensures { result.now ≡ words.first texts.now }
 {
@@ -81,6 +128,14 @@ fn answer(alloc: Global, command: &Command, texts: &[Text]) -> Result<Outcome, M
     match command {
         Command::Query { file, query } => query_file(alloc, file.bytes(), query, first(texts)),
         Command::Dump { file } => dump_file(alloc, file.bytes(), first(texts)),
+        Command::List { file } => list_file(alloc, file.bytes(), first(texts)),
+        Command::As { order, file, out } => assemble_source(
+            alloc,
+            *order,
+            file.bytes(),
+            out.bytes(),
+            first(texts),
+        ),
     }
 }
 

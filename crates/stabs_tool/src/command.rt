@@ -3,9 +3,10 @@
 ghost use Rattle.std.specs.Prelude.{◌≡◌, ◌≤◌, IfOk, length};
 ghost use Rattle.stabs_tool.specs.Commands as spec;
 
-use crate::words::{Keyword, Operand, Want, text_of, wrong_front};
+use crate::words::{Keyword, Operand, Want, order_of, text_of, word_of, wrong_front};
 use query_text::{Query, read_query};
-use st_base::{FILE_LIMIT, List, Memory, Refused, Text};
+use st_base::{FILE_LIMIT, List, Memory, Order, Refused, Text};
+use stabs_asm::SOURCE_LIMIT;
 use std::alloc::Global;
 
 /// A command with its operands.
@@ -15,6 +16,10 @@ pub enum Command {
     Query { file: Text, query: Query },
     /// `dump FILE`
     Dump { file: Text },
+    /// `list FILE`
+    List { file: Text },
+    /// `as ORDER IN OUT`
+    As { order: Order, file: Text, out: Text },
 }
 
 /// What the words of a line ask.
@@ -32,9 +37,13 @@ enum Form {
     Query,
     /// `dump FILE`
     Dump,
+    /// `list FILE`
+    List,
+    /// `as ORDER IN OUT`
+    As,
 }
 
-const FORMS: [Form; 2] = [Form::Query, Form::Dump];
+const FORMS: [Form; 4] = [Form::Query, Form::Dump, Form::List, Form::As];
 
 /// What the places of a form want.
 fn places_of(form: Form) -> &'static [Want]
@@ -43,6 +52,13 @@ fn places_of(form: Form) -> &'static [Want]
     match form {
         Form::Query => &[Want::This(Keyword::Query), Want::Any(Operand::File)],
         Form::Dump => &[Want::This(Keyword::Dump), Want::Any(Operand::File)],
+        Form::List => &[Want::This(Keyword::List), Want::Any(Operand::File)],
+        Form::As => &[
+            Want::This(Keyword::As),
+            Want::Order,
+            Want::Any(Operand::File),
+            Want::Any(Operand::Out),
+        ],
     }
 }
 
@@ -51,6 +67,23 @@ fn file_of(alloc: Global, form: Form, words: &List<Text>) -> Result<Text, Memory
     ensures { IfOk result (λ file. file ≡ spec.file_of form words.now) }
 {
     text_of(alloc, places_of(form), words.items(), Operand::File)
+}
+
+/// A copy of the word that is OUT.
+fn out_of(alloc: Global, form: Form, words: &List<Text>) -> Result<Text, Memory>
+    ensures { IfOk result (λ out. out ≡ spec.out_of form words.now) }
+{
+    text_of(alloc, places_of(form), words.items(), Operand::Out)
+}
+
+/// The byte order that ORDER names.
+fn order_in(form: Form, words: &List<Text>) -> Order
+    ensures { result ≡ spec.order_in form words.now }
+{
+    match order_of(word_of(places_of(form), words.items(), Operand::Order)) {
+        Some(order) => order,
+        None => Order::Little,
+    }
 }
 
 /// The place of the first word too many, where nothing may follow the words of a form's places.
@@ -81,6 +114,17 @@ fn asked_query(alloc: Global, words: &List<Text>) -> Result<Asked, Memory>
     }
 }
 
+/// The command, where no word follows those of the places of its form.
+fn alone(form: Form, words: &List<Text>, command: Command) -> Asked
+    requires { length (spec.places_of form) ≤ length words.now }
+    ensures { result ≡ spec.alone form words.now command }
+{
+    match too_many(form, words) {
+        Some(at) => Asked::Wrong(at),
+        None => Asked::Command(command),
+    }
+}
+
 /// What words ask whose front is what the places of a form want.
 fn command_of(alloc: Global, form: Form, words: &List<Text>) -> Result<Asked, Memory>
     requires { length (spec.places_of form) ≤ length words.now }
@@ -88,13 +132,20 @@ fn command_of(alloc: Global, form: Form, words: &List<Text>) -> Result<Asked, Me
 {
     match form {
         Form::Query => asked_query(alloc, words),
-        Form::Dump => match too_many(form, words) {
-            Some(at) => Ok(Asked::Wrong(at)),
-            None => {
-                let file = file_of(alloc, form, words)?;
-                Ok(Asked::Command(Command::Dump { file }))
-            }
-        },
+        Form::Dump => {
+            let file = file_of(alloc, form, words)?;
+            Ok(alone(form, words, Command::Dump { file }))
+        }
+        Form::List => {
+            let file = file_of(alloc, form, words)?;
+            Ok(alone(form, words, Command::List { file }))
+        }
+        Form::As => {
+            let order = order_in(form, words);
+            let file = file_of(alloc, form, words)?;
+            let out = out_of(alloc, form, words)?;
+            Ok(alone(form, words, Command::As { order, file, out }))
+        }
     }
 }
 
@@ -108,18 +159,25 @@ fn asked_in(alloc: Global, form: Form, words: &List<Text>) -> Result<Asked, Memo
     }
 }
 
-/// What the words ask: the command of the form that they are of, else the place up to which some form goes along with them.
-pub fn read_words(alloc: Global, words: &List<Text>) -> Result<Asked, Memory>
-    ensures { IfOk result (λ asked. asked ≡ spec.asked words.now) }
+/// What the words ask in these forms.
+fn asked_of(alloc: Global, forms: &[Form], words: &List<Text>) -> Result<Asked, Memory>
+    ensures { IfOk result (λ asked. asked ≡ spec.asked_from forms.now words.now 0) }
 {
     let mut furthest = 0;
-    for form in FORMS {
-        match asked_in(alloc, form, words)? {
+    for form in forms {
+        match asked_in(alloc, *form, words)? {
             Asked::Command(command) => return Ok(Asked::Command(command)),
             Asked::Wrong(at) => furthest = furthest.max(at),
         }
     }
     Ok(Asked::Wrong(furthest))
+}
+
+/// What the words ask: the command of the form that they are of, else the place up to which some form goes along with them.
+pub fn read_words(alloc: Global, words: &List<Text>) -> Result<Asked, Memory>
+    ensures { IfOk result (λ asked. asked ≡ spec.asked words.now) }
+{
+    asked_of(alloc, &FORMS, words)
 }
 
 /// The names of the files that a command reads, in order.
@@ -130,6 +188,12 @@ pub fn inputs_of(alloc: Global, command: &Command) -> Result<List<Text>, Memory>
     match command {
         Command::Query { file, query: _ } => names.push(file.copy(alloc)?)?,
         Command::Dump { file } => names.push(file.copy(alloc)?)?,
+        Command::List { file } => names.push(file.copy(alloc)?)?,
+        Command::As {
+            order: _,
+            file,
+            out: _,
+        } => names.push(file.copy(alloc)?)?,
     }
     Ok(names)
 }
@@ -141,5 +205,11 @@ pub fn most_of(command: &Command) -> u64
     match command {
         Command::Query { file: _, query: _ } => FILE_LIMIT,
         Command::Dump { file: _ } => FILE_LIMIT,
+        Command::List { file: _ } => FILE_LIMIT,
+        Command::As {
+            order: _,
+            file: _,
+            out: _,
+        } => SOURCE_LIMIT,
     }
 }

@@ -4,7 +4,7 @@
 ghost use Rattle.std.specs.Prelude.{◌≡◌, ◌++◌, decimal, IfOk, OnOk};
 ghost use Rattle.stabs_tool.specs.Outcomes as spec;
 
-use st_base::{Fault, Memory, Text, put_number, show};
+use st_base::{Fault, Memory, TOO_LARGE, Text, put_number, show};
 use std::alloc::Global;
 
 /// The defined output was printed, and stored where the command stores.
@@ -123,4 +123,27 @@ pub fn refused(alloc: Global, name: &[u8], fault: Fault) -> Result<Outcome, Memo
     text.push(b' ')?;
     put_fault(fault, &mut text)?;
     line(REFUSED, text)
+}
+
+/// The line of a fault of an input: `limit M` where a size passes its limit, which is the fault's place, else `refused NAME N P W`.
+pub fn refused_or_limit(alloc: Global, name: &[u8], fault: Fault) -> Result<Outcome, Memory>
+    ensures { IfOk result (λ o. o ≡ spec.refused_or_limit name.now fault) }
+{
+    if fault.number == TOO_LARGE {
+        limit(alloc, fault.place)
+    } else {
+        refused(alloc, name, fault)
+    }
+}
+
+/// These bytes are stored under a name, and nothing is printed.
+pub fn kept(alloc: Global, name: &[u8], bytes: Text) -> Result<Outcome, Memory>
+    ensures { IfOk result (λ o. o ≡ spec.kept name.now bytes) }
+{
+    let name = Text::of(alloc, name)?;
+    Ok(Outcome {
+        status: DONE,
+        text: Text::new(alloc),
+        stored: Some(Content { name, bytes }),
+    })
 }

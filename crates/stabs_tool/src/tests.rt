@@ -8,6 +8,11 @@
 //! - `files N`, `sink N`: in the next run the call of this number fails, counted from 0.
 //! - `run WORDS`: the program over all files so far, with these words.
 //! - `carry STATUS NAME BYTES TEXT`: an outcome that stores these bytes under the name and prints the text and a line feed.
+//! - `little LINES`, `big LINES`: the source in.s of these lines, which `|` parts, is assembled in this order to out.o without a word, and out.o
+//!   is dumped; it is held from here on. `has LINE`: a line of what was printed last. `again ORDER`: the list of out.o is assembled in
+//!   this order to the bytes of out.o.
+//! - `source LINES`: the source in.s of these lines.
+//! - `bad N LINE LINES`: the source of these lines is refused at a line with fault N, and nothing is stored.
 //! - `> LINE`: a line that is printed; `holds NAME BYTES`, `lacks NAME`: what the files hold behind the run.
 //! - `ends STATUS`: the status, and the end of the row. `rows N`: so many rows there were.
 
@@ -42,6 +47,8 @@ struct Table {
     status: u8,
     printed: Text,
     expected: Text,
+    source: Text,
+    made: Text,
     rows: u64,
 }
 
@@ -189,6 +196,16 @@ fn object(alloc: Global, big: bool, spelled: &[u8]) -> Result<Text, Fail> {
     Ok(out)
 }
 
+/// A source of these lines, which `|` parts.
+fn source_of(alloc: Global, spelled: &[u8]) -> Result<Text, Fail> {
+    let mut out = Text::new(alloc);
+    for line in spelled.split(|b| *b == b'|') {
+        out.extend(line)?;
+        out.push(b'\n')?;
+    }
+    Ok(out)
+}
+
 // ---- lines
 
 impl Table {
@@ -203,6 +220,8 @@ impl Table {
             status: 0,
             printed: Text::new(alloc),
             expected: Text::new(alloc),
+            source: Text::new(alloc),
+            made: Text::new(alloc),
             rows: 0,
         }
     }
@@ -223,6 +242,13 @@ impl Table {
         for held in self.held.items() {
             self.files
                 .hold(held.name.copy(self.alloc)?, held.bytes.copy(self.alloc)?)?;
+        }
+        let alloc = self.alloc;
+        self.files
+            .hold(Text::of(alloc, b"in.s")?, self.source.copy(alloc)?)?;
+        if !self.made.bytes().is_empty() {
+            self.files
+                .hold(Text::of(alloc, b"out.o")?, self.made.copy(alloc)?)?;
         }
         for call in self.failing_files.items() {
             self.files.fail_at(*call)?;
@@ -271,10 +297,65 @@ impl Table {
         Ok(())
     }
 
+    /// The source is assembled in this order to out.o, and nothing is printed.
+    fn assemble(&mut self, rt: &impl Abort, order: &[u8]) -> Result<Text, Fail> {
+        let mut line = Text::of(self.alloc, b"as ")?;
+        line.extend(order)?;
+        line.extend(b" in.s out.o")?;
+        self.run(line.bytes())?;
+        assert_eq!(rt; self.printed.bytes(), b"".as_slice(), "{}", self.label());
+        assert_eq!(rt; u64::from(self.status), 0, "{}", self.label());
+        self.found(b"out.o")
+    }
+
+    fn good(&mut self, rt: &impl Abort, order: &[u8], lines: &[u8]) -> Result<(), Fail> {
+        self.source = source_of(self.alloc, lines)?;
+        self.made = self.assemble(rt, order)?;
+        self.rows = self.rows.wrapping_add(1);
+        self.run(b"dump out.o")
+    }
+
+    fn again(&mut self, rt: &impl Abort, order: &[u8]) -> Result<(), Fail> {
+        self.run(b"list out.o")?;
+        self.source = self.printed.copy(self.alloc)?;
+        let again = self.assemble(rt, order)?;
+        assert_eq!(rt; again.bytes(), self.made.bytes(), "{}", self.label());
+        self.rows = self.rows.wrapping_add(1);
+        Ok(())
+    }
+
+    fn bad(&mut self, rt: &impl Abort, row: &[u8]) -> Result<(), Fail> {
+        let (number, rest) = word(row);
+        let (place, lines) = word(rest);
+        self.source = source_of(self.alloc, lines)?;
+        self.made.cut(0);
+        self.run(b"as little in.s out.o")?;
+        let mut line = Text::of(self.alloc, b"refused in.s ")?;
+        line.extend(number)?;
+        line.push(b' ')?;
+        line.extend(place)?;
+        line.extend(b" 0\n")?;
+        assert_eq!(rt; self.printed.bytes(), line.bytes(), "{}", self.label());
+        assert_eq!(rt; u64::from(self.status), 3, "{}", self.label());
+        let stored = self.found(b"out.o")?;
+        assert_eq!(rt; stored.bytes(), b"absent".as_slice(), "{}", self.label());
+        self.rows = self.rows.wrapping_add(1);
+        Ok(())
+    }
+
+    fn has(&self, rt: &impl Abort, wanted: &[u8]) {
+        let found = self
+            .printed
+            .bytes()
+            .split(|b| *b == b'\n')
+            .any(|line| line == wanted);
+        assert!(rt; found, "{}", self.label());
+    }
+
     /// The bytes of a file behind the run, `absent` where there is none.
     fn found(&mut self, name: &[u8]) -> Result<Text, Fail> {
         let name = Text::of(self.alloc, name)?;
-        match self.files.load(self.alloc, name, 1000) {
+        match self.files.load(self.alloc, name, 100_000) {
             Loaded::Bytes(bytes) => Ok(bytes),
             _ => Ok(Text::of(self.alloc, b"absent")?),
         }
@@ -310,6 +391,12 @@ impl Table {
                 assert_eq!(rt; found.bytes(), b"absent".as_slice(), "{}", self.label());
             }
             b"ends" => self.end(rt, rest),
+            b"source" => self.source = source_of(self.alloc, rest)?,
+            b"little" => self.good(rt, kind, rest)?,
+            b"big" => self.good(rt, kind, rest)?,
+            b"again" => self.again(rt, rest)?,
+            b"bad" => self.bad(rt, rest)?,
+            b"has" => self.has(rt, rest),
             b"rows" => assert_eq!(rt; self.rows, number_of(10, rest), "rows"),
             _ => assert!(rt; kind.is_empty(), "{}", self.label()),
         }

@@ -3,7 +3,7 @@
 ghost use Rattle.std.specs.Prelude.{◌≡◌, IfOk, length, take};
 ghost use Rattle.stabs_tool.specs.Words as spec;
 
-use st_base::{Memory, Text};
+use st_base::{Memory, Order, Text};
 use std::alloc::Global;
 use std::str::from_utf8;
 
@@ -12,6 +12,8 @@ use std::str::from_utf8;
 pub enum Keyword {
     Query,
     Dump,
+    List,
+    As,
 }
 
 /// What a word of a command is to the command.
@@ -19,6 +21,10 @@ pub enum Keyword {
 pub enum Operand {
     /// FILE, the file that is read.
     File,
+    /// OUT, the file that is stored.
+    Out,
+    /// ORDER, the byte order of what is stored.
+    Order,
 }
 
 /// What a place of a command's words wants. Wherever it stands, a word that is not UTF-8 is not wanted.
@@ -28,6 +34,8 @@ pub enum Want {
     This(Keyword),
     /// Any word, as this operand.
     Any(Operand),
+    /// A byte order: `little` or `big`.
+    Order,
 }
 
 /// The bytes of a keyword. Takes no memory.
@@ -37,6 +45,8 @@ fn keyword_text(keyword: Keyword) -> &'static [u8]
     match keyword {
         Keyword::Query => b"query",
         Keyword::Dump => b"dump",
+        Keyword::List => b"list",
+        Keyword::As => b"as",
     }
 }
 
@@ -46,12 +56,26 @@ fn is_text(word: &Text) -> bool
     from_utf8(word.bytes()).is_ok()
 }
 
+/// The byte order that a word names. Takes no memory.
+pub fn order_of(word: &[u8]) -> Option<Order>
+    ensures { result ≡ spec.order_of word.now }
+{
+    if word == b"little".as_slice() {
+        Some(Order::Little)
+    } else if word == b"big".as_slice() {
+        Some(Order::Big)
+    } else {
+        None
+    }
+}
+
 fn is_wanted(want: Want, word: &Text) -> bool
     ensures { result ≡ spec.is_wanted want word.now }
 {
     match want {
         Want::This(keyword) => word.bytes() == keyword_text(keyword),
         Want::Any(_) => true,
+        Want::Order => order_of(word.bytes()).is_some(),
     }
 }
 
@@ -94,11 +118,12 @@ fn is_operand(operand: Operand, want: Want) -> bool
     match want {
         Want::This(_) => false,
         Want::Any(other) => operand == other,
+        Want::Order => operand == Operand::Order,
     }
 }
 
 /// The word that is this operand; empty where no place wants it. Takes no memory.
-fn word_of<'a>(places: &[Want], words: &'a [Text], operand: Operand) -> &'a [u8]
+pub fn word_of<'a>(places: &[Want], words: &'a [Text], operand: Operand) -> &'a [u8]
     ensures { result.now ≡ spec.word_of operand places.now words.now }
 {
     for (at, want) in places.iter().enumerate() {
