@@ -1,6 +1,6 @@
 -- Names and statements that fit, and one more that does.
 use Rattle.std.proofs.Common.{◌≡◌, List, [], ◌∷◌, ◌++◌, Result, Ok, Err, subst, sym, arith}
-use Rattle.std.specs.Prelude.{OnOk, OnErr}
+use Rattle.std.specs.Prelude.{OnOk}
 use Rattle.st_base.specs.declared.fault.Memory.{Memory}
 use Rattle.stabs_asm.specs.Fits.{NameFits, NamesFit, StatementFits, AllFit}
 use Rattle.stabs_asm.specs.Scanning.{Grows}
@@ -26,8 +26,6 @@ AllFit-append : (ss : List Statement) (s : Statement) → AllFit ss → Statemen
 AllFit-append [] s all fits = (fits, tt)
 AllFit-append (t ∷ ss) s all fits = (all.0, AllFit-append ss s all.1 fits)
 
--- a push that appends a statement that fits, or changes nothing
-pub pushed_fit : (r : Result (Unit {0}) Memory) (old new : List Statement) (s : Statement) → AllFit old → StatementFits s.what
-    → OnOk r (new ≡ old ++ s ∷ []) → OnErr r (new ≡ old) → AllFit new
-pushed_fit (Ok u) old new s all fits ok err = subst AllFit (sym ok) (AllFit-append old s all fits)
-pushed_fit (Err e) old new s all fits ok err = subst AllFit (sym err) all
+-- statements with one more that fits
+pub pushed_fit : (old new : List Statement) (s : Statement) → new ≡ old ++ s ∷ [] → AllFit old → StatementFits s.what → AllFit new
+pushed_fit old new s is all fits = subst AllFit (sym is) (AllFit-append old s all fits)

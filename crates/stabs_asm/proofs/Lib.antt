@@ -1,8 +1,10 @@
+mod AssemblyExamples
 mod LineExamples
 mod ListingExamples
 pub mod AgainLemmas
 pub mod CheckLemmas
 pub mod EachLemmas
+pub mod ExpressionLemmas
 pub mod FaultLemmas
 pub mod FaultlessLemmas
 pub mod FitLemmas

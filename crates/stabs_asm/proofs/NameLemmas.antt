@@ -1,5 +1,5 @@
 -- What the map of names and the set of words say of the lists that contracts see.
-use Rattle.std.proofs.Common.{zero, suc, ◌+◌, drop, slice_get, add-one, append_assoc, ◌≡◌, ℕ, Bool, true, false, List, [], ◌∷◌, ◌++◌, Vec, Option, None, Some, is_some, position, if◌then◌else◌, refl, sym, ap, ◌∙◌, inl, inr}
+use Rattle.std.proofs.Common.{map, zero, suc, ◌+◌, drop, slice_get, add-one, append_assoc, ◌≡◌, ℕ, Bool, true, false, List, [], ◌∷◌, ◌++◌, Vec, Option, None, Some, is_some, position, if◌then◌else◌, refl, sym, ap, ◌∙◌, inl, inr}
 use Rattle.std.proofs.lemmas.Option.{none-some}
 use Rattle.std.proofs.lemmas.Bool.{cases_Bool, true≢false}
 use Rattle.std.proofs.lemmas.List.{map-append, length-map}
@@ -60,6 +60,8 @@ slice_item [] i x e = absurd (none-some x e)
 slice_item (y ∷ xs) zero x e = let same : y ≡ x = cc in rw same refl
 slice_item (y ∷ xs) (suc i) x e = rw (add-one (suc i)) (rw (add-one i) at (slice_item xs i x e))
 
--- one item more of a list is taken
-pub taken_step : {X : Type 0} (xs front next : List X) (i : ℕ) (x : X) → front ++ drop i xs ≡ xs → slice_get xs i ≡ Some x → next ≡ front ++ x ∷ [] → next ++ drop (i + 1) xs ≡ xs
-taken_step xs front next i x invariant item is = rw is (append_assoc front (x ∷ []) (drop (i + 1) xs) ∙ (rw (slice_item xs i x item) at invariant))
+-- what one item more of a list gives is put behind what was given before
+pub taken_step : {X Y : Type 0} (f : X → Y) (xs : List X) (out next whole : List Y) (i : ℕ) (x : X) → out ++ map f (drop i xs) ≡ whole → slice_get xs i ≡ Some x
+    → next ≡ out ++ f x ∷ [] → next ++ map f (drop (i + 1) xs) ≡ whole
+taken_step f xs out next whole i x invariant item is =
+    rw is (append_assoc out (f x ∷ []) (map f (drop (i + 1) xs)) ∙ (rw (slice_item xs i x item) at invariant))

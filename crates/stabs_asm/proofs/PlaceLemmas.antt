@@ -6,6 +6,8 @@ use Rattle.std.proofs.lemmas.Option.{none-some}
 use Rattle.std.proofs.lemmas.List.Sums.{fold-append}
 use Rattle.std.specs.Map.{lookup}
 use Rattle.std.specs.Str.{bytes_eq}
+use Rattle.std.specs.Vec.Iter.{into_iter_items, into_iter_steps}
+use Rattle.std.specs.declared.vec.IntoIter.{IntoIter}
 use Rattle.stabs_asm.specs.Emitting.{OffsetsFit, TableFits}
 use Rattle.stabs_asm.specs.Layout.{Room, after, each, reached}
 use Rattle.stabs_asm.specs.Meaning.{found, here, with_address, unless_common}
@@ -25,6 +27,10 @@ use Rattle.stabs_asm.specs.declared.statement.What.{What}
 -- an item of a list and what is behind it
 pub drop_item : {X : Type 0} (xs : List X) (i : ℕ) (x : X) → i < length xs → x ≡ get_or xs i x → drop i xs ≡ x ∷ drop (i + 1) xs
 drop_item xs i x within is = drop-cons xs i x within ∙ ap (λ y. y ∷ drop (suc i) xs) (sym is) ∙ ap (λ j. x ∷ drop j xs) (sym (add-one i))
+
+-- an item that is taken out of a list, and what is left
+pub taken : {X Z : Type 0} (before behind : IntoIter X Z) (x : X) → into_iter_steps before (Some x) behind → into_iter_items before ≡ x ∷ into_iter_items behind
+taken before behind x steps = steps.0
 
 -- a power of two up to the twelfth
 pub power_small : (n : ℕ) → n ≤ 12 → 1 * 2 ^ n % 340282366920938463463374607431768211456 ≤ 4096

@@ -1,6 +1,7 @@
 pub mod Assembling
 pub mod Directives
 pub mod Emitting
+pub mod Expressions
 pub mod First
 pub mod Fits
 pub mod Kinds

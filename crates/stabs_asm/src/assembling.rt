@@ -1,36 +1,52 @@
-ghost use Rattle.std.specs.Prelude.{◌≡◌, length};
+ghost use Rattle.std.specs.Prelude.{◌≡◌, length, IfOk};
 ghost use Rattle.aout_object.specs.Decoding.{Gives};
-ghost use Rattle.stabs_asm.specs.Assembling.{object_of, assembled};
+ghost use Rattle.stabs_asm.specs.Assembling.{assembled, entries_by, object_of, parts_by};
 ghost use Rattle.stabs_asm.specs.Emitting.{Left, Passed, TableFits, Within};
-ghost use Rattle.stabs_asm.specs.Fits.{AllFit};
 ghost use Rattle.stabs_asm.specs.Layout.{start, table_of};
 ghost use Rattle.stabs_asm.specs.Lines as lines;
 
 use crate::check::first_fault;
 use crate::lines::read_source;
 use crate::making::{Made, check_limits, emit};
-use crate::statement::Statement;
+use crate::out::Statements;
 use crate::table::{Table, lay_out};
 use crate::undefined::undefined_names;
 use crate::words::Words;
 use aout_object::Object;
-use st_base::{Order, Refused};
+use st_base::{Memory, Order, Refused};
 use std::alloc::Global;
+
+// What statements without a fault make. They and what was found of them are dropped before an object is made of it.
+fn emit_last(
+    alloc: Global,
+    table: Table,
+    undefined: Words,
+    statements: Statements,
+    order: Order,
+) -> Result<Made, Memory>
+    requires table { TableFits table }
+    requires within { Within table (length undefined) }
+    requires left { Left table start statements }
+    ensures parts { IfOk result (λ m. m.parts ≡ parts_by order table undefined statements) }
+    ensures named { IfOk result (λ m. m.named ≡ entries_by table undefined statements) }
+{
+    emit(alloc, order, &table, &undefined, statements)
+}
 
 // The object of statements without a fault whose limits hold.
 fn make_within(
     alloc: Global,
-    table: &Table,
-    undefined: &Words,
-    statements: &[Statement],
+    table: Table,
+    undefined: Words,
+    statements: Statements,
     order: Order,
 ) -> Result<Object, Refused>
-    requires table { TableFits table.now }
-    requires passed { Passed statements.now table.now undefined.now }
-    requires within { Within table.now (length undefined.now) }
-    ensures { Gives result (object_of order statements.now) }
+    requires table { TableFits table }
+    requires passed { Passed statements table undefined }
+    requires within { Within table (length undefined) }
+    ensures { Gives result (object_of order statements) }
 {
-    let Made { parts, named } = emit(alloc, order, table, undefined, statements)?;
+    let Made { parts, named } = emit_last(alloc, table, undefined, statements, order)?;
     Object::make(alloc, parts, &named)
 }
 
@@ -38,33 +54,32 @@ fn make_within(
 // them never are.
 fn make_object(
     alloc: Global,
-    table: &Table,
-    statements: &[Statement],
+    table: Table,
+    statements: Statements,
     order: Order,
 ) -> Result<Object, Refused>
-    requires fits { TableFits table.now }
-    requires table { table.now ≡ table_of statements.now }
-    requires left { Left table.now start statements.now }
-    ensures { Gives result (object_of order statements.now) }
+    requires fits { TableFits table }
+    requires table { table ≡ table_of statements }
+    requires left { Left table start statements }
+    ensures { Gives result (object_of order statements) }
 {
-    let undefined = undefined_names(alloc, table, statements)?;
-    check_limits(table, undefined.len())?;
-    make_within(alloc, table, &undefined, statements, order)
+    let undefined = undefined_names(alloc, &table, statements.items())?;
+    check_limits(&table, undefined.len())?;
+    make_within(alloc, table, undefined, statements, order)
 }
 
 // The object that statements make, or their first fault.
 fn assemble_statements(
     alloc: Global,
-    statements: &[Statement],
+    statements: Statements,
     order: Order,
 ) -> Result<Object, Refused>
-    requires { AllFit statements.now }
-    ensures { Gives result (object_of order statements.now) }
+    ensures { Gives result (object_of order statements) }
 {
-    let table = lay_out(alloc, statements)?;
-    match first_fault(&table, statements) {
+    let table = lay_out(alloc, statements.items())?;
+    match first_fault(&table, statements.items()) {
         Some(fault) => Err(Refused::At(fault)),
-        None => make_object(alloc, &table, statements, order),
+        None => make_object(alloc, table, statements, order),
     }
 }
 
@@ -79,7 +94,7 @@ pub fn assemble(alloc: Global, source: &[u8], order: Order) -> Result<Object, Re
     ensures { Gives result (assembled order (lines.read_source source.now)) }
 {
     match read_source(alloc, source) {
-        Ok(statements) => assemble_statements(alloc, statements.items(), order),
+        Ok(statements) => assemble_statements(alloc, statements, order),
         Err(Refused::At(fault)) => Err(Refused::At(fault)),
         Err(Refused::Memory) => Err(Refused::Memory),
     }

@@ -1,4 +1,5 @@
-ghost use Rattle.std.specs.Prelude.{◌≡◌, ◌<◌, ◌==◌, ◌^◌};
+ghost use Rattle.std.specs.Prelude.{◌≡◌, ◌<◌, ◌==◌, ◌^◌, ◌∷◌, []};
+ghost use Rattle.std.specs.Prelude as prelude;
 ghost use Rattle.std.specs.List.{list_any};
 ghost use Rattle.stabs_asm.specs.Emitting.{TableFits};
 ghost use Rattle.stabs_asm.specs.Fits.{AllFit, StatementFits, SumFits};
@@ -6,9 +7,10 @@ ghost use Rattle.stabs_asm.specs.Layout as layout;
 ghost use Rattle.stabs_asm.specs.Layout.{Room};
 ghost use Rattle.stabs_asm.specs.Meaning as spec;
 
-use crate::statement::{Name, Plain, Rel, Stab, Statement, Sum, What, Width};
+use crate::expression::Expression;
+use crate::statement::{Name, Plain, Rel, Stab, Statement, What, Width};
 use crate::table::{Definition, Places, Table, after, is_local, start};
-use crate::value::{found, in_range, kind_of, minus, plus};
+use crate::value::{address, found, in_range, kind_of, minus, plus};
 use st_base::{Fault, LINE_MIXED, LINE_RANGE, LINE_TWICE, LINE_UNDEFINED};
 
 /// How an expression is used: as the value of a stab, or in a data field.
@@ -83,26 +85,61 @@ fn mixed(table: &Table, places: Places, added: &[Name], taken: &[Name]) -> bool
     }
 }
 
-fn sum_fault(
+#[tactic(auto, using(crate::proofs::PlaceLemmas::found_small))]
+// The fault of a name less another, with each looked up once.
+fn pair_fault(
     table: &Table,
     places: Places,
     used: Use,
     low: u32,
     high: u32,
-    sum: &Sum,
+    sum: &Expression,
+    x: &Name,
+    y: &Name,
 ) -> Option<u16>
     requires table { TableFits table.now }
     requires room { Room places 1 }
     requires sum { SumFits sum.now }
+    requires over { sum.now.over ≡ prelude.false }
+    requires added { sum.now.added ≡ x.now ∷ [] }
+    requires taken { sum.now.taken ≡ y.now ∷ [] }
     ensures { result ≡ spec.sum_fault table.now places used low high sum.now }
 {
-    if sum.over {
-        return Some(LINE_RANGE);
+    match (found(table, places, x), found(table, places, y)) {
+        (Some(one), Some(other)) => {
+            if kind_of(one.home) != kind_of(other.home) {
+                return Some(LINE_MIXED);
+            }
+            let more = address(table, one) + sum.more();
+            let less = address(table, other) + sum.less();
+            if in_range(low, high, more, less) {
+                None
+            } else {
+                Some(LINE_RANGE)
+            }
+        }
+        _ => Some(LINE_UNDEFINED),
     }
-    if missing(table, places, used, sum.added.items(), sum.taken.items()) {
+}
+
+fn other_fault(
+    table: &Table,
+    places: Places,
+    used: Use,
+    low: u32,
+    high: u32,
+    sum: &Expression,
+) -> Option<u16>
+    requires table { TableFits table.now }
+    requires room { Room places 1 }
+    requires sum { SumFits sum.now }
+    requires over { sum.now.over ≡ prelude.false }
+    ensures { result ≡ spec.sum_fault table.now places used low high sum.now }
+{
+    if missing(table, places, used, sum.added(), sum.taken()) {
         return Some(LINE_UNDEFINED);
     }
-    if mixed(table, places, sum.added.items(), sum.taken.items()) {
+    if mixed(table, places, sum.added(), sum.taken()) {
         return Some(LINE_MIXED);
     }
     if in_range(
@@ -114,6 +151,28 @@ fn sum_fault(
         None
     } else {
         Some(LINE_RANGE)
+    }
+}
+
+fn sum_fault(
+    table: &Table,
+    places: Places,
+    used: Use,
+    low: u32,
+    high: u32,
+    sum: &Expression,
+) -> Option<u16>
+    requires table { TableFits table.now }
+    requires room { Room places 1 }
+    requires sum { SumFits sum.now }
+    ensures { result ≡ spec.sum_fault table.now places used low high sum.now }
+{
+    if sum.over() {
+        return Some(LINE_RANGE);
+    }
+    match (sum.added(), sum.taken()) {
+        ([x], [y]) => pair_fault(table, places, used, low, high, sum, x, y),
+        _ => other_fault(table, places, used, low, high, sum),
     }
 }
 
@@ -185,14 +244,10 @@ fn has_no_zero(bytes: &[u8]) -> bool
 fn stab_fits(stab: &Stab) -> bool
     ensures { result ≡ spec.stab_fits stab.now }
 {
-    is_accepted(stab.kind)
-        && in_byte(stab.other)
-        && in_range(
-            32768,
-            65535,
-            u128::from(stab.desc.more),
-            u128::from(stab.desc.less),
-        )
+    let desc = stab.desc.plain();
+    is_accepted(stab.kind.plain())
+        && in_byte(stab.other.plain())
+        && in_range(32768, 65535, u128::from(desc.more), u128::from(desc.less))
         && has_no_zero(stab.name.bytes())
 }
 
@@ -214,6 +269,23 @@ fn rel_fits(rel: Rel) -> bool
             || rel.symbol == 4
             || rel.symbol == 6
             || rel.symbol == 8)
+}
+
+fn stab_fault(table: &Table, places: Places, stab: &Stab) -> Option<u16>
+    requires table { TableFits table.now }
+    requires room { Room places 1 }
+    requires sum { SumFits stab.now.value }
+    ensures { result ≡ spec.fault_of table.now places (What.Stab stab.now) }
+{
+    let value = sum_fault(
+        table,
+        places,
+        Use::Value,
+        2147483648,
+        4294967295,
+        &stab.value,
+    );
+    ranged(stab_fits(stab), value)
 }
 
 fn fault_of(table: &Table, places: Places, what: &What) -> Option<u16>
@@ -238,17 +310,7 @@ fn fault_of(table: &Table, places: Places, what: &What) -> Option<u16>
             1 <= *size && *size <= 4294967295,
             twice(table, places, name.bytes()),
         ),
-        What::Stab(stab) => ranged(
-            stab_fits(stab),
-            sum_fault(
-                table,
-                places,
-                Use::Value,
-                2147483648,
-                4294967295,
-                &stab.value,
-            ),
-        ),
+        What::Stab(stab) => stab_fault(table, places, stab),
         What::Align(power) => ranged(*power <= 12, None),
         What::Entry(word) => ranged(*word <= 4294967295, None),
         What::Machine(word) => ranged(*word <= 65535 && *word != 1793, None),

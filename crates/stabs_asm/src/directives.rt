@@ -6,6 +6,7 @@ ghost use Rattle.stabs_asm.specs.Operands.{pieces};
 ghost use Rattle.stabs_asm.specs.Scanning.{Reads, Refuses, Puts, IsSmall};
 
 use crate::directive::Directive;
+use crate::expression::Expression;
 use crate::operands::{
     behind, cut, first_end, here, name_of, plain_of, size_of, string_of, sum_of,
 };
@@ -208,7 +209,7 @@ fn stab_from(
     let kind = plain_of(kind)?;
     let other = plain_of(other)?;
     let desc = plain_of(desc)?;
-    let value = sum_of(alloc, value)?;
+    let value = Expression::of(alloc, sum_of(alloc, value)?)?;
     Ok(Stab {
         name,
         kind,
@@ -225,7 +226,7 @@ fn stabd_from(alloc: Global, kind: &[Token], other: &[Token], desc: &[Token]) ->
     let kind = plain_of(kind)?;
     let other = plain_of(other)?;
     let desc = plain_of(desc)?;
-    let value = here(alloc)?;
+    let value = Expression::of(alloc, here(alloc)?)?;
     Ok(Stab {
         name: Text::new(alloc),
         kind,
@@ -340,12 +341,14 @@ fn put_fields(alloc: Global, width: Width, tokens: &[Token], out: &mut Out) -> R
     let mut back = 0u128;
     while let Some(at) = first_end(rest) {
         let sum = sum_of(alloc, &rest[..at])?;
-        out.put(What::Field(width, shifted(back, sum)))?;
+        let value = Expression::of(alloc, shifted(back, sum))?;
+        out.put(What::Field(width, value))?;
         back += size;
         rest = behind(rest, at);
     }
     let sum = sum_of(alloc, rest)?;
-    out.put(What::Field(width, shifted(back, sum)))
+    let value = Expression::of(alloc, shifted(back, sum))?;
+    out.put(What::Field(width, value))
 }
 
 /// Puts the statements that the operands of a directive give behind those that were read. Refused where the operands are of no form.

@@ -1,9 +1,8 @@
-ghost use Rattle.std.specs.Prelude.{◌≡◌, ◌<◌, ◌≤◌, ◌∷◌, length, position, IfSome, IfOk};
+ghost use Rattle.std.specs.Prelude.{◌≡◌, ◌<◌, ◌≤◌, ◌∷◌, length, position, IfSome};
 ghost use Rattle.std.specs.Option.{option_copied};
 ghost use Rattle.st_base.specs.declared.fault.TheConstants.{LINE_SYNTAX};
 ghost use Rattle.st_base.specs.Faults.{fault_at};
 ghost use Rattle.stabs_asm.specs.Assembling.{ReadsSource};
-ghost use Rattle.stabs_asm.specs.Fits.{AllFit};
 ghost use Rattle.stabs_asm.specs.Lines as spec;
 ghost use Rattle.stabs_asm.specs.Scanning.{Puts, lines_behind};
 
@@ -11,7 +10,7 @@ use crate::directives::{directive_of, put_operands};
 use crate::operands::name_in;
 use crate::out::{Out, Statements};
 use crate::scan::{Bad, read_tokens};
-use crate::statement::{Statement, What};
+use crate::statement::What;
 use crate::token::{Kind, Token};
 use st_base::{Fault, LINE_SYNTAX, List, Refused};
 use std::alloc::Global;
@@ -110,9 +109,8 @@ fn syntax_fault(line: u64) -> Fault
 
 /// The statements of a source. Refused with `LINE_SYNTAX` at the first line that is of no form; the place is the number of that line,
 /// counted from 1. Takes memory for the statements and for the tokens of a line.
-pub fn read_source(alloc: Global, source: &[u8]) -> Result<List<Statement>, Refused>
-    ensures read { ReadsSource result (spec.read_source source.now) }
-    ensures fits { IfOk result (λ ss. AllFit ss) }
+pub fn read_source(alloc: Global, source: &[u8]) -> Result<Statements, Refused>
+    ensures { ReadsSource result (spec.read_source source.now) }
 {
     let mut out = Out {
         number: 1,
@@ -129,7 +127,7 @@ pub fn read_source(alloc: Global, source: &[u8]) -> Result<List<Statement>, Refu
             Err(Bad::Memory) => return Err(Refused::Memory),
         }
         match behind {
-            None => return Ok(out.statements.into_list()),
+            None => return Ok(out.statements),
             Some(more) => {
                 out.number += 1;
                 rest = more;

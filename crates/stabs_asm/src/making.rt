@@ -9,7 +9,8 @@ ghost use Rattle.stabs_asm.specs.Layout as layout;
 ghost use Rattle.stabs_asm.specs.Layout.{Room};
 ghost use Rattle.stabs_asm.specs.Meaning as spec;
 
-use crate::statement::{Name, Part, Plain, Rel, Stab, Statement, What, Width};
+use crate::out::Statements;
+use crate::statement::{Name, Part, Plain, Rel, Stab, What, Width};
 use crate::table::{
     Definition, Home, Places, Table, after, aligned, home_of, is_local, offset_in, padding, start,
 };
@@ -284,8 +285,8 @@ fn put_relocs(
             undefined,
             places,
             *width,
-            sum.added.items(),
-            sum.taken.items(),
+            sum.added(),
+            sum.taken(),
         ),
         What::Rel(rel) => out.push(written(*rel)),
         _ => Ok(()),
@@ -294,16 +295,9 @@ fn put_relocs(
 
 // ---- entries
 
-fn put_entry(
-    alloc: Global,
-    out: &mut List<Named>,
-    kind: u8,
-    value: u32,
-    name: &Text,
-) -> Result<(), Memory>
-    ensures { OnOk result (out.new ≡ out.old ++ spec.entry_with kind value name.now ∷ []) }
+fn put_entry(out: &mut List<Named>, kind: u8, value: u32, name: Text) -> Result<(), Memory>
+    ensures { OnOk result (out.new ≡ out.old ++ spec.entry_with kind value name ∷ []) }
 {
-    let name = name.copy(alloc)?;
     out.push(Named {
         kind,
         other: 0,
@@ -313,19 +307,13 @@ fn put_entry(
     })
 }
 
-fn put_unless_local(
-    alloc: Global,
-    out: &mut List<Named>,
-    kind: u8,
-    value: u32,
-    name: &Text,
-) -> Result<(), Memory>
-    ensures { OnOk result (out.new ≡ out.old ++ spec.unless_local (layout.is_local name.now) (spec.entry_with kind value name.now)) }
+fn put_unless_local(out: &mut List<Named>, kind: u8, value: u32, name: Text) -> Result<(), Memory>
+    ensures { OnOk result (out.new ≡ out.old ++ spec.unless_local (layout.is_local name) (spec.entry_with kind value name)) }
 {
     if is_local(name.bytes()) {
         Ok(())
     } else {
-        put_entry(alloc, out, kind, value, name)
+        put_entry(out, kind, value, name)
     }
 }
 
@@ -353,29 +341,22 @@ fn half_of(number: Plain) -> u16
     (word(u128::from(number.more), u128::from(number.less)) % 65536) as u16
 }
 
-fn put_stab(
-    alloc: Global,
-    out: &mut List<Named>,
-    table: &Table,
-    places: Places,
-    stab: &Stab,
-) -> Result<(), Memory>
+fn put_stab(out: &mut List<Named>, table: &Table, places: Places, stab: Stab) -> Result<(), Memory>
     requires table { TableFits table.now }
     requires room { Room places 1 }
-    requires what { SumFits stab.now.value }
-    ensures { OnOk result (out.new ≡ out.old ++ spec.stab_entry table.now places stab.now ∷ []) }
+    requires what { SumFits stab.value }
+    ensures { OnOk result (out.new ≡ out.old ++ spec.stab_entry table.now places stab ∷ []) }
 {
-    let name = stab.name.copy(alloc)?;
     let value = word(
         plus(table, places, &stab.value),
         minus(table, places, &stab.value),
     );
     out.push(Named {
-        kind: byte_of(stab.kind),
-        other: byte_of(stab.other),
-        desc: half_of(stab.desc),
+        kind: byte_of(stab.kind.plain()),
+        other: byte_of(stab.other.plain()),
+        desc: half_of(stab.desc.plain()),
         value,
-        name,
+        name: stab.name,
     })
 }
 
@@ -401,32 +382,32 @@ fn value_at(table: &Table, definition: Definition) -> u32
     address(table, definition) as u32
 }
 
+// The entries of a statement take its names.
 fn put_entries(
-    alloc: Global,
     out: &mut List<Named>,
     table: &Table,
     places: Places,
-    what: &What,
+    what: What,
 ) -> Result<(), Memory>
     requires table { TableFits table.now }
     requires room { Room places 1 }
     requires addresses { EndsInMemory table.now }
-    requires stands { Stands table.now places what.now }
-    ensures { OnOk result (out.new ≡ out.old ++ spec.entries_in table.now places what.now) }
+    requires stands { Stands table.now places what }
+    ensures { OnOk result (out.new ≡ out.old ++ spec.entries_in table.now places what) }
 {
     match what {
         What::Label(name) => {
-            let kind = kind_of(home_of(places.part)) + ext(table, name);
+            let kind = kind_of(home_of(places.part)) + ext(table, &name);
             let value = value_at(table, here(places));
-            put_unless_local(alloc, out, kind, value, name)
+            put_unless_local(out, kind, value, name)
         }
-        What::Comm(name, size) => put_entry(alloc, out, 1, *size as u32, name),
+        What::Comm(name, size) => put_entry(out, 1, size as u32, name),
         What::Lcomm(name, _) => {
-            let kind = 8 + ext(table, name);
+            let kind = 8 + ext(table, &name);
             let value = value_at(table, bss_at(places));
-            put_unless_local(alloc, out, kind, value, name)
+            put_unless_local(out, kind, value, name)
         }
-        What::Stab(stab) => put_stab(alloc, out, table, places, stab),
+        What::Stab(stab) => put_stab(out, table, places, stab),
         _ => Ok(()),
     }
 }
@@ -434,9 +415,9 @@ fn put_entries(
 fn put_undefined(alloc: Global, out: &mut List<Named>, undefined: &Words) -> Result<(), Memory>
     ensures { OnOk result (out.new ≡ out.old ++ map spec.undefined_entry undefined.now) }
 {
-    let names = undefined.texts(alloc)?;
-    for name in names.items() {
-        put_entry(alloc, out, 1, 0, name)?;
+    for at in 0..undefined.len() {
+        let name = undefined.text_at(alloc, at)?;
+        put_entry(out, 1, 0, name)?;
     }
     Ok(())
 }
@@ -482,19 +463,19 @@ fn put_relocs_in_part(
     }
 }
 
-/// The last pass: what statements without a fault make, where their numbers fit.
+/// The last pass: what statements without a fault make, where their numbers fit. It takes the statements, and drops each as it goes.
 pub(crate) fn emit(
     alloc: Global,
     order: Order,
     table: &Table,
     undefined: &Words,
-    statements: &[Statement],
+    statements: Statements,
 ) -> Result<Made, Memory>
     requires table { TableFits table.now }
     requires within { Within table.now (length undefined.now) }
-    requires left { Left table.now layout.start statements.now }
-    ensures parts { IfOk result (λ m. m.parts ≡ parts_by order table.now undefined.now statements.now) }
-    ensures named { IfOk result (λ m. m.named ≡ entries_by table.now undefined.now statements.now) }
+    requires left { Left table.now layout.start statements }
+    ensures parts { IfOk result (λ m. m.parts ≡ parts_by order table.now undefined.now statements) }
+    ensures named { IfOk result (λ m. m.named ≡ entries_by table.now undefined.now statements) }
 {
     let mut text = Text::new(alloc);
     let mut datum = Text::new(alloc);
@@ -502,19 +483,20 @@ pub(crate) fn emit(
     let mut data_relocs = List::new(alloc);
     let mut named = List::new(alloc);
     let mut places = start();
-    for statement in statements {
-        let what = &statement.what;
-        put_in_part(&mut text, &mut datum, order, table, places, what)?;
+    for statement in statements.into_vec() {
+        let next = after(places, &statement);
+        let what = statement.what;
+        put_in_part(&mut text, &mut datum, order, table, places, &what)?;
         put_relocs_in_part(
             &mut text_relocs,
             &mut data_relocs,
             table,
             undefined,
             places,
-            what,
+            &what,
         )?;
-        put_entries(alloc, &mut named, table, places, what)?;
-        places = after(places, statement);
+        put_entries(&mut named, table, places, what)?;
+        places = next;
     }
     put_undefined(alloc, &mut named, undefined)?;
     let entry = table.entry as u32;

@@ -7,8 +7,9 @@ ghost use Rattle.stabs_asm.specs.Operands as spec;
 ghost use Rattle.stabs_asm.specs.Scanning.{Reads, Refuses, Grows, IsSmall, pieces_at, pieces_behind};
 ghost use Rattle.stabs_asm.specs.declared.statement.Name.TheVariants.{Here};
 
+use crate::number::Number;
 use crate::scan::{Bad, begins_name};
-use crate::statement::{Name, Plain, Sum};
+use crate::statement::{Name, Sum};
 use crate::token::{Kind, Token, Tokens};
 use st_base::{List, Memory, Text};
 use std::alloc::Global;
@@ -288,7 +289,8 @@ pub(crate) fn sum_of(alloc: Global, tokens: &[Token]) -> Result<Sum, Bad>
 }
 
 fn number_in(token: &Token) -> Result<u64, Bad>
-    ensures { Reads (λ n. n) result (spec.number_in token.now) }
+    ensures read { Reads (λ n. n) result (spec.number_in token.now) }
+    ensures small { IfOk result (λ n. n ≤ 4294967296) }
 {
     match token.kind() {
         Kind::Word(word) => match number_of(word) {
@@ -300,32 +302,16 @@ fn number_in(token: &Token) -> Result<u64, Bad>
     }
 }
 
-fn plain_with(minus: bool, number: u64) -> Plain
-    ensures { result ≡ spec.plain_with minus number }
-{
-    if minus {
-        Plain {
-            more: 0,
-            less: number,
-        }
-    } else {
-        Plain {
-            more: number,
-            less: 0,
-        }
-    }
-}
-
 /// The number that tokens are, perhaps with a leading `-`. Takes no memory.
-pub(crate) fn plain_of(tokens: &[Token]) -> Result<Plain, Bad>
+pub(crate) fn plain_of(tokens: &[Token]) -> Result<Number, Bad>
     ensures { Reads (λ n. n) result (spec.plain_of tokens.now) }
 {
     match tokens {
         [] => Err(Bad::Form),
-        [token] => Ok(plain_with(false, number_in(token)?)),
+        [token] => Ok(Number::of(false, number_in(token)?)),
         [mark, token] => {
             if is_minus(mark) {
-                Ok(plain_with(true, number_in(token)?))
+                Ok(Number::of(true, number_in(token)?))
             } else {
                 Err(Bad::Form)
             }

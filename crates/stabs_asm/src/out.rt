@@ -5,14 +5,14 @@ ghost use Rattle.stabs_asm.specs.Scanning.{with_what, Puts};
 
 use crate::scan::Bad;
 use crate::statement::{Statement, What};
-use st_base::{List, Memory};
+use st_base::Memory;
 use std::alloc::Global;
 use std::marker::Model;
 
 /// Statements that fit. Contracts see their list.
 #[derive(Drop)]
 pub struct Statements {
-    list: List<Statement>,
+    list: Vec<Statement>,
 }
 
 impl Model for Statements {
@@ -22,9 +22,9 @@ impl Model for Statements {
 
     ghost Value = { List Statement };
 
-    ghost view = { λ s. s.list };
+    ghost view = { λ s. s.list.items };
 
-    ghost invariant = { λ s. AllFit s.list };
+    ghost invariant = { λ s. AllFit s.list.items };
 }
 
 impl Statements {
@@ -33,7 +33,7 @@ impl Statements {
         ensures { result ≡ [] }
     {
         Statements {
-            list: List::new(alloc),
+            list: Vec::new(alloc),
         }
     }
 
@@ -43,13 +43,21 @@ impl Statements {
         requires { StatementFits what }
         ensures { OnOk result (self.new ≡ self.old ++ at_line line what ∷ []) }
     {
-        self.list.push(Statement { line, what })
+        self.list.push(Statement { line, what })?;
+        Ok(())
     }
 
-    /// The list itself. Takes no memory.
-    pub fn into_list(self) -> List<Statement>
-        ensures value { result ≡ self }
-        ensures fits { AllFit result }
+    /// All statements. Takes no memory.
+    pub fn items(&self) -> &[Statement]
+        ensures value { result.now ≡ self.now }
+        ensures fits { AllFit result.now }
+    {
+        self.list.as_slice()
+    }
+
+    /// The statements themselves. Takes no memory.
+    pub fn into_vec(self) -> Vec<Statement>
+        ensures { result.items ≡ self }
     {
         self.list
     }

@@ -1,4 +1,4 @@
-ghost use Rattle.std.specs.Prelude.{◌≡◌, Some, ◌<◌, ◌≤◌, length, IfOk, IfErr, OnOk};
+ghost use Rattle.std.specs.Prelude.{◌≡◌, [], Some, ◌<◌, ◌≤◌, length, IfOk, IfErr, OnOk};
 ghost use Rattle.std.specs.List.{prefix_len};
 ghost use Rattle.stabs_asm.specs.Scanning as scan;
 ghost use Rattle.stabs_asm.specs.Scanning.{Refuses, Steps};
@@ -8,6 +8,9 @@ ghost use Rattle.stabs_asm.specs.Tokens.Token.{Str};
 use crate::token::{Quoted, Token};
 use st_base::{List, Memory, Text};
 use std::alloc::Global;
+
+// A string of so many bytes does not grow while it is read.
+const SHORT_STRING: usize = 64;
 
 /// Why a line is not read: it is of no form, or memory was wanting.
 #[derive(Clone, Copy, Drop)]
@@ -151,13 +154,22 @@ fn step(text: &mut Text, quoted: Quoted, byte: u8) -> Result<Option<Quoted>, Bad
     }
 }
 
+// An empty text with room for a short string in front of these bytes.
+fn text_before(alloc: Global, bytes: &[u8]) -> Result<Text, Memory>
+    ensures { IfOk result (λ t. t ≡ []) }
+{
+    let mut text = Text::of(alloc, &bytes[..bytes.len().min(SHORT_STRING)])?;
+    text.cut(0);
+    Ok(text)
+}
+
 // The string behind a `"`, and what stands behind it.
 fn string_at(alloc: Global, bytes: &[u8]) -> Result<(Text, &[u8]), Bad>
     ensures read { IfOk result (λ x. spec.read_in spec.inside bytes.now ≡ spec.with_token (Str x.0) (spec.tokens x.1.now)) }
     ensures refused { IfErr result (λ e. Refuses e (spec.read_in spec.inside bytes.now)) }
     ensures shorter { IfOk result (λ x. length x.1.now ≤ length bytes.now) }
 {
-    let mut text = Text::new(alloc);
+    let mut text = text_before(alloc, bytes)?;
     let mut quoted = Quoted::Inside;
     let mut rest = bytes;
     while let [byte, more @ ..] = rest {

@@ -1,3 +1,5 @@
+use crate::expression::Expression;
+use crate::number::Number;
 use st_base::{List, Text};
 
 /// The segment that a statement is in.
@@ -36,10 +38,10 @@ pub struct Plain {
 #[derive(Drop)]
 pub struct Stab {
     pub name: Text,
-    pub kind: Plain,
-    pub other: Plain,
-    pub desc: Plain,
-    pub value: Sum,
+    pub kind: Number,
+    pub other: Number,
+    pub desc: Number,
+    pub value: Expression,
 }
 
 /// The operands of a relocation that is written.
@@ -64,7 +66,7 @@ pub enum Width {
 pub enum What {
     Label(Text),
     Switch(Part),
-    Field(Width, Sum),
+    Field(Width, Expression),
     Space(u64),
     Globl(Text),
     Comm(Text, u64),

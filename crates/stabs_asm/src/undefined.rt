@@ -37,7 +37,7 @@ fn note_undefined(words: &mut Words, table: &Table, what: &What) -> Result<(), M
     ensures { OnOk result (words.new ≡ fold with_word words.old (spec.outer table.now what.now)) }
 {
     match what {
-        What::Field(_, sum) => note_outer(words, table, sum.added.items(), sum.taken.items()),
+        What::Field(_, sum) => note_outer(words, table, sum.added(), sum.taken()),
         _ => Ok(()),
     }
 }

@@ -4,7 +4,8 @@ ghost use Rattle.stabs_asm.specs.Fits.{SumFits};
 ghost use Rattle.stabs_asm.specs.Layout.{Room};
 ghost use Rattle.stabs_asm.specs.Meaning as spec;
 
-use crate::statement::{Name, Sum};
+use crate::expression::Expression;
+use crate::statement::Name;
 use crate::table::{Definition, Home, Places, Table, home_of, offset_in};
 
 /// The kind of an entry that is defined there.
@@ -114,25 +115,25 @@ fn address_of(table: &Table, places: Places, names: &[Name]) -> u128
 }
 
 /// What is added in an expression.
-pub(crate) fn plus(table: &Table, places: Places, sum: &Sum) -> u128
+pub(crate) fn plus(table: &Table, places: Places, sum: &Expression) -> u128
     requires table { TableFits table.now }
     requires room { Room places 1 }
     requires sum { SumFits sum.now }
     ensures value { result ≡ spec.plus table.now places sum.now }
     ensures small { result < 2 ^ 127 + 2 ^ 100 }
 {
-    address_of(table, places, sum.added.items()) + sum.more
+    address_of(table, places, sum.added()) + sum.more()
 }
 
 /// What is subtracted in an expression.
-pub(crate) fn minus(table: &Table, places: Places, sum: &Sum) -> u128
+pub(crate) fn minus(table: &Table, places: Places, sum: &Expression) -> u128
     requires table { TableFits table.now }
     requires room { Room places 1 }
     requires sum { SumFits sum.now }
     ensures value { result ≡ spec.minus table.now places sum.now }
     ensures small { result < 2 ^ 127 + 2 ^ 100 }
 {
-    address_of(table, places, sum.taken.items()) + sum.less
+    address_of(table, places, sum.taken()) + sum.less()
 }
 
 /// Whether the value is from -low to high.

@@ -4,7 +4,7 @@ ghost use Rattle.std.specs.Str.{bytes_eq};
 ghost use Rattle.stabs_asm.specs.Names.{with_word};
 
 use indexmap::IndexSet;
-use st_base::{List, Memory, Text};
+use st_base::{Memory, Text};
 use std::alloc::Global;
 use std::marker::Model;
 
@@ -56,7 +56,8 @@ impl Words {
         self.set.len()
     }
 
-    fn text_at(&self, alloc: Global, at: usize) -> Result<Text, Memory>
+    /// The name at a place.
+    pub fn text_at(&self, alloc: Global, at: usize) -> Result<Text, Memory>
         requires { at < length self.now }
         ensures { IfOk result (λ t. slice_get self.now at ≡ Some t) }
     {
@@ -65,18 +66,6 @@ impl Words {
             text.extend(name.as_slice())?;
         }
         Ok(text)
-    }
-
-    /// The names.
-    pub fn texts(&self, alloc: Global) -> Result<List<Text>, Memory>
-        ensures { IfOk result (λ names. names ≡ self.now) }
-    {
-        let mut names = List::new(alloc);
-        for at in 0..self.len() {
-            let text = self.text_at(alloc, at)?;
-            names.push(text)?;
-        }
-        Ok(names)
     }
 
     /// Adds a name, where it is not there.

@@ -21,9 +21,9 @@ by_line order f read h = ap (assembled order) h.1 ∙ ap Err (sym h.2)
 
 pub returns-in-Ok : goal.returns-in-Ok
 returns-in-Ok c =
-    by_statements c.args.order c.items.result.now _ c.assemble_statements.result (c.in-Ok.ensures.read ∙ ap Ok (sym c.items.ensures)) c.assemble_statements.ensures
+    by_statements c.args.order c.in-Ok.statements _ c.assemble_statements.result c.in-Ok.ensures c.assemble_statements.ensures
 
 pub returns-in-Err-At : goal.returns-in-Err-At
 returns-in-Err-At c =
-    by_line c.args.order c.in-Err-At.fault _ (subst (λ (r : Refused). ReadsSource (Err r) (read_source c.args.source.now)) c.in-Err-At.field-0-is c.in-Err-At.ensures.read)
+    by_line c.args.order c.in-Err-At.fault _ (subst (λ (r : Refused). ReadsSource (Err r) (read_source c.args.source.now)) c.in-Err-At.field-0-is c.in-Err-At.ensures)
     ∙ ap Err (sym c.in-Err-At.fault-is)

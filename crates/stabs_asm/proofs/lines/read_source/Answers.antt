@@ -1,21 +1,20 @@
-use Rattle.std.proofs.Common.{ap, arith, ◌∙◌, sym, Ok}
+use Rattle.std.proofs.Common.{ap, arith}
 use Rattle.std.specs.Option.{option_copied}
 use Rattle.stabs_asm.proofs.LineLemmas.{number_stays, source_next, source_last, source_bad}
 use Rattle.stabs_asm.proofs.lines.read_source.Goals as goal
 
-pub returns-in-Err-Form-clause-read : goal.returns-in-Err-Form-clause-read
-returns-in-Err-Form-clause-read c = (
+pub returns-in-Err-Form : goal.returns-in-Err-Form
+returns-in-Err-Form c = (
   c.loop-tokens.out.number,
   source_bad c.loop-tokens.out c.loop-tokens.rest.now c.cut_line.result.0.now (option_copied c.cut_line.result.1) _ c.loop-tokens.invariant.read
       c.cut_line.ensures.value (rw c.in-Err-Form.field-0-is at c.in-Err-Form.ensures),
   c.syntax_fault.ensures,
 )
 
-pub returns-in-None-clause-read : goal.returns-in-None-clause-read
-returns-in-None-clause-read c =
+pub returns-in-None : goal.returns-in-None
+returns-in-None c =
     source_last c.loop-tokens.out c.read_line.new.out c.loop-tokens.rest.now c.cut_line.result.0.now (option_copied c.cut_line.result.1) _ c.loop-tokens.invariant.read
     c.cut_line.ensures.value (ap option_copied c.in-None.is) c.in-Ok.ensures
-    ∙ ap Ok (sym c.into_list.ensures.value)
 
 pub overflow_add-out : goal.overflow_add-out
 overflow_add-out c =
