@@ -1,8 +1,10 @@
 //! The outcome of a command over what its inputs came to.
 
-ghost use Rattle.std.specs.Prelude.{◌≡◌, ◌<◌, ◌^◌, length, IfOk, Ok};
+ghost use Rattle.std.specs.Prelude.{◌≡◌, ◌<◌, ◌^◌, length, IfOk};
 ghost use Rattle.stabs_tool.specs.Commands as commands;
+ghost use Rattle.aout_object.specs.Objects.{file_of};
 ghost use Rattle.stabs_tool.specs.Inputs.{IsPlaced};
+ghost use Rattle.stabs_tool.specs.Outcomes as outcomes;
 ghost use Rattle.stabs_tool.specs.Words as words;
 ghost use Rattle.stabs_tool.specs.Replies.{RepliesOnWorld, RepliesOnObject, OnObject, Dumps, Lists, Answers, RepliesTo, kept_object};
 ghost use Rattle.stabs_asm.specs.Assembling.{assembled};
@@ -88,8 +90,8 @@ fn list_file(alloc: Global, name: &[u8], bytes: &[u8]) -> Result<Outcome, Memory
 }
 
 /// The file of an object is to be stored.
-fn keep_object(alloc: Global, name: &[u8], out: &[u8], object: &Object) -> Result<Outcome, Memory>
-    ensures { IfOk result (λ o. o ≡ kept_object name.now out.now (Ok object.now)) }
+fn keep_object(alloc: Global, out: &[u8], object: &Object) -> Result<Outcome, Memory>
+    ensures { IfOk result (λ o. o ≡ outcomes.kept out.now (file_of object.now)) }
 {
     let file = encode(alloc, object)?;
     kept(alloc, out, file)
@@ -106,7 +108,7 @@ fn assemble_source(
     ensures { IfOk result (λ o. o ≡ kept_object name.now out.now (assembled order (read_source source.now))) }
 {
     match assemble(alloc, source, order) {
-        Ok(object) => keep_object(alloc, name, out, &object),
+        Ok(object) => keep_object(alloc, out, &object),
         Err(Refused::At(fault)) => refused_or_limit(alloc, name, fault),
         Err(Refused::Memory) => Err(Memory),
     }
