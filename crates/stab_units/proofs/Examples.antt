@@ -1,5 +1,6 @@
 -- Worked values, by hand after "The stabs debug format".
-use Rattle.std.proofs.Common.{◌≡◌, ◌≢◌, ℕ, Some, None, true, false, List, [], ◌∷◌, refl}
+use Rattle.std.proofs.Common.{◌≡◌, ◌≢◌, inl, inr, arith, get_or, ℕ, Some, None, true, false, List, [], ◌∷◌, refl, ap}
+use Rattle.std.specs.Prelude.{map, ◌++◌}
 use Rattle.st_base.specs.declared.fault.TheConstants.{NO_UNIT, BRACKETS, EXCLUDED}
 use Rattle.st_base.specs.Faults.{fault_at}
 use Rattle.stab_codes.specs.Table.{carries_symbol}
@@ -12,6 +13,8 @@ use Rattle.stab_units.specs.Runs.{joined}
 use Rattle.stab_units.specs.Marks.{file_in}
 use Rattle.stab_units.specs.Outlines.{units_of, outline_tell}
 use Rattle.stab_units.specs.Units.{stabs_from}
+use Rattle.stab_units.specs.Forgetting.{forgotten}
+use Rattle.stab_units.specs.Joining.{AreAlike}
 
 -- an entry by its kind, its name and its value
 abbrev en : ℕ → List ℕ → ℕ → Named
@@ -86,3 +89,39 @@ two_stabs : stabs_from [] 1 (en N_LSYM (97 ∷ 92 ∷ []) 0 ∷ en N_LSYM (98 �
     ∷ record { entry = en N_SLINE (99 ∷ []) 7; place = 3; file = 0; string = 99 ∷ [] } ∷ []
 unfolding carries_symbol
 two_stabs = refl
+
+-- `a` at 4 includes `b`, which one linker gives 7 and another 9: the same without them
+same_but_header : map forgotten (en N_SO (97 ∷ []) 4 ∷ en N_BINCL (98 ∷ []) 7 ∷ en N_EXCL (99 ∷ []) 2 ∷ en N_EINCL [] 0 ∷ [])
+    ≡ map forgotten (en N_SO (97 ∷ []) 4 ∷ en N_BINCL (98 ∷ []) 9 ∷ en N_EXCL (99 ∷ []) 2 ∷ en N_EINCL [] 0 ∷ [])
+same_but_header = refl
+
+-- without it an N_BINCL has 0; the start of a unit and what an N_EXCL says stay
+kept_values : map forgotten (en N_SO (97 ∷ []) 4 ∷ en N_BINCL (98 ∷ []) 7 ∷ en N_EXCL (99 ∷ []) 2 ∷ [])
+    ≡ en N_SO (97 ∷ []) 4 ∷ en N_BINCL (98 ∷ []) 0 ∷ en N_EXCL (99 ∷ []) 2 ∷ []
+kept_values = refl
+
+-- units that start at 4 and at 5 differ without it too
+other_start : forgotten (en N_SO (97 ∷ []) 4) ≢ forgotten (en N_SO (97 ∷ []) 5)
+other_start e = let starts : Path ℕ 4 5 = ap (λ (z : Named). z.value) e in cc
+
+-- `x/` alone is a unit from 4 to the end of text
+mark_alone : units_of 8 (en N_SO (120 ∷ 47 ∷ []) 4 ∷ []) ≡ record { name = 120 ∷ 47 ∷ []; start = 4; end = 8; first = 0; past = 1; headers = [] } ∷ []
+mark_alone = refl
+
+-- before a list that begins with `f` at 8 it names the directory of `f`: of two units there is one
+mark_joined : units_of 20 ((en N_SO (120 ∷ 47 ∷ []) 4 ∷ []) ++ en N_SO (102 ∷ []) 8 ∷ [])
+    ≡ record { name = 120 ∷ 47 ∷ 102 ∷ []; start = 8; end = 20; first = 1; past = 2; headers = [] } ∷ []
+mark_joined = refl
+
+-- neither list has a fault, and one behind the other has none
+none_joined : first_told (outline_tell Object) [] 0 ((en N_SO (120 ∷ 47 ∷ []) 4 ∷ []) ++ en N_SO (102 ∷ []) 8 ∷ []) ≡ None
+unfolding carries_symbol
+none_joined = refl
+
+-- a stab with another value, and an undefined name (1) that a linker finds in text (5)
+moved : AreAlike (en N_SO (102 ∷ []) 0 ∷ en 1 (97 ∷ []) 0 ∷ []) (en N_SO (102 ∷ []) 64 ∷ en 5 (97 ∷ []) 72 ∷ [])
+moved = (inl (record { stab = refl; kind = refl; name = refl }), (inr (record { first = refl; second = refl }), tt))
+
+-- a stab with another name is another stab
+renamed : AreAlike (en N_SO (102 ∷ []) 0 ∷ []) (en N_SO (103 ∷ []) 0 ∷ []) → ⊥
+renamed alike = elim alike.0 [ inl stabs ↦ let same : 102 ≡ 103 = ap (λ name. get_or name 0 0) stabs.name in omega (arith, same) | inr none ↦ let first = none.first in absurd cc ]

@@ -11,3 +11,7 @@ pub mod ReadingLemmas
 pub mod UnitLemmas
 pub mod FewLemmas
 pub mod OneLaws
+pub mod ForgetLemmas
+pub mod UntoldLemmas
+pub mod ReadableLemmas
+pub mod AlikeLemmas

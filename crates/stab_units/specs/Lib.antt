@@ -9,3 +9,5 @@ pub mod Sweeps
 pub mod Units
 pub mod Worlds
 pub mod Walking
+pub mod Forgetting
+pub mod Joining

@@ -1,6 +1,6 @@
 //! What the definitions of outlines and units say of any entries.
 
-ghost use Rattle.std.specs.Prelude.{◌≡◌, ◌≤◌, ◌⊎◌, ℕ, List, Option, MatchOption, length};
+ghost use Rattle.std.specs.Prelude.{◌≡◌, ◌≤◌, ◌⊎◌, ◌++◌, ℕ, List, [], None, Option, MatchOption, length, map};
 ghost use Rattle.st_base.specs.declared.fault.Fault.{Fault};
 ghost use Rattle.nlist_codec.specs.declared.named.Named.{Named};
 ghost use Rattle.stab_units.specs.declared.outline_types.Marks.{Marks};
@@ -11,6 +11,8 @@ ghost use Rattle.stab_units.specs.Counts.{ClosesAt, NeverCloses};
 ghost use Rattle.stab_units.specs.Outlines.{OutlineFault};
 ghost use Rattle.stab_units.specs.Units.{IsUnitOf, UnitFault};
 ghost use Rattle.stab_units.specs.Worlds.{AreUnits, UnitsFault};
+ghost use Rattle.stab_units.specs.Forgetting.{forgotten};
+ghost use Rattle.stab_units.specs.Joining.{AreAlike};
 
 use stab_grammar::one_symbol;
 
@@ -50,4 +52,24 @@ pub fn few_units()
 pub fn closing_law()
     ensures headers { (es : List Named) (more : ℕ) → MatchOption (closing in_headers es more) (NeverCloses in_headers es more) (ClosesAt in_headers es more) }
     ensures blocks { (es : List Named) (more : ℕ) → MatchOption (closing in_blocks es more) (NeverCloses in_blocks es more) (ClosesAt in_blocks es more) }
+{}
+
+/// The value of an N_BINCL stands in no unit, and no fault tells it: lists of entries that differ in values of N_BINCL alone have the
+/// same units and the same faults.
+pub fn header_values_law()
+    ensures units { (text_end : ℕ) (es fs : List Named) (units : List Unit) → map forgotten es ≡ map forgotten fs → AreUnits text_end es units → AreUnits text_end fs units }
+    ensures faults { (text_end : ℕ) (es fs : List Named) (f : Fault) → map forgotten es ≡ map forgotten fs → UnitsFault text_end es f → UnitsFault text_end fs f }
+{}
+
+/// Lists of entries that each have units have units where one stands behind the other, and so have entries that are alike: a linker
+/// gives them other values, and may give one that is no stab another kind that is none. Text may end anywhere. Outlines without a
+/// fault have none there; no entries have no units.
+///
+/// The units need not be those of the parts: an N_SO whose name ends in `/` begins a unit at the end of a list, and names a directory
+/// before one that begins with a source.
+pub fn joined_law()
+    ensures outline { (marks : Marks) (es fs : List Named) → OutlineFault marks es None → OutlineFault marks fs None → OutlineFault marks (es ++ fs) None }
+    ensures joined { (end other text_end : ℕ) (es fs : List Named) (us vs : List Unit) → AreUnits end es us → AreUnits other fs vs → (units : List Unit) × AreUnits text_end (es ++ fs) units }
+    ensures none { (text_end : ℕ) → AreUnits text_end [] [] }
+    ensures alike { (end text_end : ℕ) (es fs : List Named) (us : List Unit) → AreUnits end es us → AreAlike es fs → (units : List Unit) × AreUnits text_end fs units }
 {}

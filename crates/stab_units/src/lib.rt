@@ -21,7 +21,9 @@ mod spans;
 mod stack;
 mod unit;
 
-pub use laws::{closing_law, few_units, one_outline, one_unit, one_units};
+pub use laws::{
+    closing_law, few_units, header_values_law, joined_law, one_outline, one_unit, one_units,
+};
 pub use outline_types::{HeaderMark, Marks, UnitSpan};
 pub use outlines::outline;
 pub use reading::{read_unit, units};
