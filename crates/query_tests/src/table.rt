@@ -8,6 +8,7 @@
 //!     * 3 82=h.h                  one more so many times
 //!     x 9 80=:t1                  one more, with so many bytes x before its name
 //!     ? files 0                   a query
+//!     ranges                      the header ranges of all entries so far, each kept, with its instance
 //!     unit 0                      the unit of this number, as `read_unit` gives it; `definition 0 1 2` and the like ask it
 //!       0 a.c                     each line of the answer, or `refused` with number, place and within
 //!
@@ -19,6 +20,7 @@ use crate::answers::{put_fault, put_line, put_lines};
 use crate::entries::{cut, number, push_entries, push_long, push_many, push_one, words_of};
 use crate::head::{Head, asks, head_of};
 use crate::outlines::{externals_text, outline_text, unit_of};
+use crate::ranges::ranges_text;
 use crate::types::put_about;
 use nlist_codec::Named;
 use query_text::{read_query, reply_text};
@@ -100,6 +102,7 @@ fn told(
         Head::Object => outline_text(alloc, entries, text_end, Marks::Object),
         Head::Image | Head::Again => outline_text(alloc, entries, text_end, Marks::Image),
         Head::Externals => Ok(externals_text(alloc, entries)?),
+        Head::Ranges => ranges_text(alloc, entries, text_end),
         head => about_unit(alloc, entries, text_end, head, line),
     }
 }

@@ -1,0 +1,11 @@
+pub mod Examples
+pub mod ListLemmas
+pub mod FreeLemmas
+pub mod InstanceLemmas
+pub mod OwnLemmas
+pub mod FirstsLemmas
+pub mod KeyLemmas
+pub mod CrowdLemmas
+pub mod ReadLemmas
+pub mod SpanLemmas
+pub mod LawLemmas

@@ -1,0 +1,7 @@
+pub mod Sums
+pub mod Ranges
+pub mod Lawful
+pub mod Instances
+pub mod Owning
+pub mod Crowding
+pub mod Reading

@@ -1,0 +1,36 @@
+//! Header ranges of an entry list, and which of them are kept. A compiler writes the types of a header file into each unit that includes
+//! it, between N_BINCL and N_EINCL; a linker that keeps the range of one unit for those of the others needs to know what a range is
+//! wherever it stands. It stands on the units of `stab_units` and on the shapes, files and spellings of `stab_grammar`.
+//!
+//! The law that the layers above use: the entries of an object have exactly one list of ranges, in which a unit and a file open one
+//! header at most, and a candidate is the only range of its unit with its name and shape.
+//!
+//! ```text
+//! "a.c"   N_SO        unit 0
+//! "x.h"   N_BINCL     range 0: unit 0, file 1
+//! "i:t(1,2)"          its own entry: shape `i:t(,2)`, numbers 1
+//! "y.h"   N_BINCL     range 1: unit 0, file 2, inside range 0
+//! "j:t7"              its own entry: shape `j:t7`, no numbers
+//!         N_SLINE     its own entry, so range 1 is no candidate
+//!         N_EINCL
+//!         N_EINCL
+//! ```
+#![tactic(auto)]
+
+mod crowd;
+mod groups;
+mod instances;
+mod kinds;
+mod laws;
+mod nest;
+mod owning;
+mod range;
+mod reading;
+mod stack;
+mod sums;
+mod unit_ranges;
+
+pub use instances::{alone, instance_of, kept_of};
+pub use laws::one_ranges;
+pub use range::{Grouping, RangeOf};
+pub use reading::ranges;
