@@ -1,0 +1,19 @@
+mod Examples
+mod LinkingExamples
+pub mod SourceLemmas
+pub mod FrontLemmas
+pub mod MoveLemmas
+pub mod NameLemmas
+pub mod DefinitionLemmas
+pub mod CommonLemmas
+pub mod CommonPlaces
+pub mod RelocLemmas
+pub mod PlacedLemmas
+pub mod FirstLemmas
+pub mod AcceptedLemmas
+pub mod HeaderLemmas
+pub mod MakingLemmas
+pub mod GroupLemmas
+pub mod ExactLemmas
+pub mod UnitLemmas
+pub mod LinkingLemmas

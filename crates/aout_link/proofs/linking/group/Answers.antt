@@ -1,0 +1,10 @@
+use Rattle.std.proofs.Common.{◌≡◌, ap}
+use Rattle.std.specs.Prelude.{Err}
+use Rattle.st_base.specs.declared.fault.Refused.TheVariants as refused
+use Rattle.aout_link.proofs.linking.group.Goals as goal
+
+-- entries with units have no fault of them
+pub returns-clause-refused : goal.returns-clause-refused
+returns-clause-refused g c = λ f is.
+    let same : c.in-Err.why ≡ refused.At f = cc in
+    c.one_units.ensures.not_both c.args.end c.args.entries.now c.requires.units.0 f c.requires.units.1 (c.in-Err.ensures.refused f (ap Err same))

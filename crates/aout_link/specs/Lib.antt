@@ -1,0 +1,12 @@
+pub mod Sources
+pub mod Moves
+pub mod Tables
+pub mod Placing
+pub mod Refusals
+pub mod Answering
+pub mod First
+pub mod Accepted
+pub mod Headers
+pub mod Making
+pub mod Groups
+pub mod Linking

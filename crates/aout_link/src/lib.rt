@@ -1,0 +1,28 @@
+//! The linker of a.out objects: from a list of objects whose entries have units, and a base address, to one image in which every header
+//! range is kept, or to the first fault of the list. It stands on objects, their entries and relocations, on units and on header ranges.
+//!
+//! The law that the layers above use: a list is refused exactly where it is not accepted, for the first fault in a fixed order; what
+//! is placed of an accepted list is told by sums over the objects that stand before each; and the entries of the image are the placed
+//! ones but for the values of N_BINCL, which tell the ranges of one name apart, so that the world of the image is that of the placed
+//! entries.
+#![tactic(auto)]
+
+mod checked;
+mod commons;
+mod definitions;
+mod headers;
+mod image;
+mod laws;
+mod linking;
+mod moves;
+mod placed;
+mod placing;
+mod refusals;
+mod relocating;
+
+pub use checked::Checked;
+pub use headers::number_headers;
+pub use image::make_image;
+pub use laws::{accepted_laws, first_laws, group_laws, header_laws};
+pub use linking::{Image, Mode, link};
+pub use placed::{Placed, place_objects};
