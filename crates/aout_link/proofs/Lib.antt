@@ -17,3 +17,4 @@ pub mod GroupLemmas
 pub mod ExactLemmas
 pub mod UnitLemmas
 pub mod LinkingLemmas
+pub mod OneLinkLemmas

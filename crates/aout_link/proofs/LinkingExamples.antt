@@ -1,7 +1,7 @@
 -- Worked values of linking, by hand: two objects in little order with four bytes of text and one unit each, linked from address 4096 on.
 -- Both units include a header `h` without symbols, so that the sums of both ranges are 0, and their instances 0 and 1.
 use Rattle.std.proofs.Common.{◌≡◌, ◌≢◌, ℕ, zero, suc, ◌+◌, ◌<◌, ◌%◌, ◌^◌, List, [], ◌∷◌, true, false, refl, subst, arith, lit<, get_or, ap}
-use Rattle.std.specs.Prelude.{Some, None, Option, codes, map, slice_get, slice_index}
+use Rattle.std.specs.Prelude.{Some, None, Option, codes, slice_get, slice_index}
 use Rattle.st_base.specs.declared.order.Order.TheVariants.{Little}
 use Rattle.st_base.specs.declared.fault.Fault.{Fault}
 use Rattle.stab_codes.specs.Segments.{segment_of}
@@ -19,7 +19,7 @@ use Rattle.stab_units.proofs.FirstLemmas.{first_of_all}
 use Rattle.bincl_match.specs.declared.range.RangeOf.{RangeOf}
 use Rattle.bincl_match.specs.declared.range.Grouping.{Grouping}
 use Rattle.bincl_match.specs.Ranges.{AreRanges}
-use Rattle.bincl_match.specs.Instances.{IsTaken, IsInstance, IsAlone}
+use Rattle.bincl_match.specs.Instances.{IsTaken, IsInstance}
 use Rattle.aout_link.specs.Sources.{Source, HasUnits}
 use Rattle.aout_link.specs.Moves.{all_moves}
 use Rattle.aout_link.specs.Tables.{names_table}

@@ -1,12 +1,11 @@
 -- What the values of headers leave as it is: names, and with them the size of the file; externals and units, and with them the world.
 -- And what the parts of linking give together.
-use Rattle.std.proofs.Common.{◌≡◌, ℕ, ◌+◌, ◌*◌, ◌<◌, Bool, true, false, cond, List, [], ◌∷◌, length, map, Option, Some, None, refl, sym, ap, subst, ◌∙◌, arith}
-use Rattle.std.specs.Prelude.{filter, ◌||◌, ◌==◌, nat_le, if◌then◌else◌, Result, Ok, Err}
+use Rattle.std.proofs.Common.{◌≡◌, ℕ, ◌+◌, ◌<◌, Bool, true, false, cond, List, [], ◌∷◌, length, map, Some, None, refl, sym, ap, subst, ◌∙◌, arith}
+use Rattle.std.specs.Prelude.{filter, ◌||◌, ◌==◌, nat_le, if◌then◌else◌, Ok, Err}
 use Rattle.std.proofs.lemmas.Bool.{eqb-true, lt-leb}
 use Rattle.std.proofs.lemmas.List.{length-map}
 use Rattle.st_base.specs.ByteOrder.{is_big}
 use Rattle.st_base.specs.Faults.{fault_at, first_fault}
-use Rattle.st_base.specs.declared.fault.Fault.{Fault}
 use Rattle.st_base.specs.declared.fault.Refused.{Refused}
 use Rattle.st_base.specs.declared.fault.Refused.TheVariants as refused
 use Rattle.st_base.specs.declared.fault.TheConstants.{TOO_LARGE}
@@ -22,13 +21,12 @@ use Rattle.stab_units.specs.Forgetting.{forgotten}
 use Rattle.stab_units.specs.Worlds.{AreUnits, strings_in}
 use Rattle.bincl_match.specs.declared.range.Grouping.{Grouping}
 use Rattle.stab_units.specs.declared.unit.Unit.{Unit}
-use Rattle.type_graph.specs.Worlds.{is_external, external_of, externals_of, IsWorldOf}
-use Rattle.type_graph.specs.declared.world.World.{World}
+use Rattle.type_graph.specs.Worlds.{is_external, external_of, externals_of}
 use Rattle.stab_codes.specs.declared.code.TheConstants.{N_BINCL}
 use Rattle.aout_link.specs.Headers.{numbered, with_value, begins_header}
 use Rattle.aout_link.specs.Making.{CanBeMade, parts_of, image_of, size_fault, with_headers}
 use Rattle.aout_link.specs.Refusals.{Refuses}
-use Rattle.aout_link.specs.Linking.{HaveOneWorld, IsGrouped, IsImageOf, IsNumbered, Makes, Numbers, image_end}
+use Rattle.aout_link.specs.Linking.{HaveOneWorld, IsGrouped, Makes, Numbers, image_end}
 use Rattle.aout_link.specs.declared.placed.Placed.{Placed}
 use Rattle.aout_link.specs.declared.linking.Image.{Image}
 use Rattle.aout_link.proofs.HeaderLemmas.{forgotten-numbered, still_can}

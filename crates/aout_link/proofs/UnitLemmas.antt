@@ -1,6 +1,6 @@
 -- Placing leaves each stab its kind and its name, and makes none. So the placed entries of objects that have units have units.
 use Rattle.std.proofs.Common.{◌≡◌, ℕ, Bool, true, false, cond, List, [], ◌∷◌, ◌++◌, map, Some, refl, sym, ap, subst, ◌∙◌, inl, inr}
-use Rattle.std.specs.Prelude.{All, filter, ◌||◌, ◌==◌, ◌⊎◌, bytes_eq, unwrap_or}
+use Rattle.std.specs.Prelude.{All, filter, ◌||◌, ◌==◌, bytes_eq, unwrap_or}
 use Rattle.std.specs.List.{AllByRecursion}
 use Rattle.std.proofs.lemmas.Bool.{eqb-true}
 use Rattle.std.proofs.lemmas.List.Elements.{recursion_from_All}

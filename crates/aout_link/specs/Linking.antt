@@ -1,13 +1,13 @@
 -- What linking without merging makes of a list of objects: every header range is kept, and each N_BINCL tells by its value which of the
 -- ranges of its name it begins. After "The stabs debug format", on include files; that the value is the instance of the range, and the
 -- order of refusals, are this project's own.
-use Rattle.std.specs.Prelude.{◌≡◌, ◌↔◌, ◌⊎◌, ℕ, ◌+◌, List, length, Option, Some, None, Result, Ok, Err}
+use Rattle.std.specs.Prelude.{◌≡◌, ◌↔◌, ◌⊎◌, ℕ, ◌+◌, List, length, Some, None, Result, Ok, Err}
 use Rattle.st_base.specs.declared.fault.Fault.{Fault}
 use Rattle.st_base.specs.declared.fault.Refused.{Refused}
 use Rattle.st_base.specs.declared.fault.Refused.TheVariants as refused
 use Rattle.nlist_codec.specs.declared.named.Named.{Named}
 use Rattle.aout_object.specs.Objects.{named_of}
-use Rattle.stab_units.specs.Worlds.{AreUnits, strings_in}
+use Rattle.stab_units.specs.Worlds.{strings_in}
 use Rattle.type_graph.specs.Worlds.{IsWorldOf}
 use Rattle.type_graph.specs.declared.world.World.{World}
 use Rattle.bincl_match.specs.Instances.{IsAlone}

@@ -1,11 +1,12 @@
-ghost use Rattle.std.specs.Prelude.{◌≡◌, ◌↔◌, ℕ, Bool, List, [], map, None, Some};
+ghost use Rattle.std.specs.Prelude.{◌≡◌, ◌↔◌, ◌⊎◌, ℕ, Bool, List, [], map, All, None, Some};
 ghost use Rattle.st_base.specs.declared.fault.Fault.{Fault as FaultValue};
+ghost use Rattle.st_base.specs.declared.fault.Refused.TheVariants as refused;
 ghost use Rattle.nlist_codec.specs.declared.named.Named.{Named as NamedValue};
 ghost use Rattle.reloc.specs.declared.reloc.Reloc.{Reloc as RelocValue};
 ghost use Rattle.stab_units.specs.declared.unit.Unit.{Unit as UnitValue};
 ghost use Rattle.stab_units.specs.Forgetting.{forgotten};
 ghost use Rattle.stab_units.specs.Worlds.{AreUnits};
-ghost use Rattle.aout_link.specs.Sources.{Source as SourceValue};
+ghost use Rattle.aout_link.specs.Sources.{Source as SourceValue, IsLawful, HasUnits};
 ghost use Rattle.aout_link.specs.declared.moves.Moves.{Moves as MovesValue};
 ghost use Rattle.aout_link.specs.declared.definitions.Known.{Known as KnownValue};
 ghost use Rattle.aout_link.specs.declared.moves.Starts.{Starts as StartsValue};
@@ -19,9 +20,11 @@ ghost use Rattle.aout_link.specs.First.{HasFirst, stages, stage_fault, differenc
 ghost use Rattle.aout_link.specs.declared.placed.Placed.{Placed as PlacedValue};
 ghost use Rattle.aout_link.specs.Making.{CanBeMade, size_fault, with_headers};
 ghost use Rattle.aout_link.specs.Headers.{numbered};
-ghost use Rattle.aout_link.specs.Linking.{HaveOneWorld};
+ghost use Rattle.aout_link.specs.Linking.{HaveOneWorld, IsLinked, RefusesLink};
+ghost use Rattle.aout_link.specs.declared.linking.Image.{Image as ImageValue};
 
-use stab_units::header_values_law;
+use bincl_match::{one_alone, one_ranges};
+use stab_units::{header_values_law, joined_law, one_units};
 
 /// A list of objects has no fault exactly where it is accepted: where each condition holds of each object, entry and relocation, told
 /// by what stands before it. The places of commons of such a list are sums that no remainder cuts.
@@ -71,4 +74,20 @@ pub fn header_laws()
     ensures world { (values : List ℕ) (ns : List NamedValue) → HaveOneWorld ns (numbered values ns) }
 {
     header_values_law();
+}
+
+/// A list of objects that have units either has exactly one image, for which one number of steps is taken, or has exactly one fault that
+/// it is refused for. Out of memory is a refusal of any list.
+pub fn one_link()
+    ensures some { (base : ℕ) (os : List SourceValue) (old : ℕ) → All IsLawful os → All HasUnits os → ((new : ℕ) × (image : ImageValue) × IsLinked base os old new image) ⊎ ((f : FaultValue) × RefusesLink base os (refused.At f)) }
+    ensures one_image { (base : ℕ) (os : List SourceValue) (old new other : ℕ) (image second : ImageValue) → IsLinked base os old new image → IsLinked base os old other second → image ≡ second }
+    ensures one_count { (base : ℕ) (os : List SourceValue) (old new other : ℕ) (image second : ImageValue) → IsLinked base os old new image → IsLinked base os old other second → new ≡ other }
+    ensures one_fault { (base : ℕ) (os : List SourceValue) (f g : FaultValue) → RefusesLink base os (refused.At f) → RefusesLink base os (refused.At g) → f ≡ g }
+    ensures not_both { (base : ℕ) (os : List SourceValue) (old new : ℕ) (image : ImageValue) (f : FaultValue) → IsLinked base os old new image → RefusesLink base os (refused.At f) → ⊥ }
+{
+    header_values_law();
+    joined_law();
+    one_units();
+    one_ranges();
+    one_alone();
 }

@@ -4,7 +4,7 @@
 //! The law that the layers above use: a list is refused exactly where it is not accepted, for the first fault in a fixed order; what
 //! is placed of an accepted list is told by sums over the objects that stand before each; and the entries of the image are the placed
 //! ones but for the values of N_BINCL, which tell the ranges of one name apart, so that the world of the image is that of the placed
-//! entries.
+//! entries. A list of objects that have units has exactly one image, or exactly one fault.
 #![tactic(auto)]
 
 mod checked;
@@ -23,6 +23,6 @@ mod relocating;
 pub use checked::Checked;
 pub use headers::number_headers;
 pub use image::make_image;
-pub use laws::{accepted_laws, first_laws, group_laws, header_laws};
+pub use laws::{accepted_laws, first_laws, group_laws, header_laws, one_link};
 pub use linking::{Image, Mode, link};
 pub use placed::{Placed, place_objects};

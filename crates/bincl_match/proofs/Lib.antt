@@ -2,6 +2,7 @@ pub mod Examples
 pub mod ListLemmas
 pub mod FreeLemmas
 pub mod InstanceLemmas
+pub mod AloneLemmas
 pub mod OwnLemmas
 pub mod FirstsLemmas
 pub mod KeyLemmas

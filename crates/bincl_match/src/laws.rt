@@ -1,10 +1,12 @@
-//! What the definition of ranges says of any entries.
+//! What the definition of ranges says of any entries, and that of a grouping of any ranges.
 
-ghost use Rattle.std.specs.Prelude.{◌≡◌, ◌⊎◌, ℕ, List};
+ghost use Rattle.std.specs.Prelude.{◌≡◌, ◌⊎◌, ◌<◌, ◌^◌, ℕ, List, length};
 ghost use Rattle.st_base.specs.declared.fault.Fault.{Fault};
 ghost use Rattle.nlist_codec.specs.declared.named.Named.{Named};
 ghost use Rattle.stab_units.specs.Worlds.{UnitsFault};
+ghost use Rattle.bincl_match.specs.declared.range.Grouping.{Grouping};
 ghost use Rattle.bincl_match.specs.declared.range.RangeOf.{RangeOf};
+ghost use Rattle.bincl_match.specs.Instances.{IsAlone};
 ghost use Rattle.bincl_match.specs.Lawful.{IsLawful};
 ghost use Rattle.bincl_match.specs.Ranges.{AreRanges};
 
@@ -21,3 +23,9 @@ pub fn one_ranges()
     one_symbol();
     one_units();
 }
+
+/// Every range kept: there is exactly one grouping.
+pub fn one_alone()
+    ensures some { (ranges : List RangeOf) → length ranges < 2 ^ 32 → (grouping : Grouping) × IsAlone ranges grouping }
+    ensures one { (ranges : List RangeOf) (grouping other : Grouping) → IsAlone ranges grouping → IsAlone ranges other → grouping ≡ other }
+{}

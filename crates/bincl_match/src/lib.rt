@@ -3,7 +3,8 @@
 //! wherever it stands. It stands on the units of `stab_units` and on the shapes, files and spellings of `stab_grammar`.
 //!
 //! The law that the layers above use: the entries of an object have exactly one list of ranges, in which a unit and a file open one
-//! header at most, and a candidate is the only range of its unit with its name and shape.
+//! header at most, and a candidate is the only range of its unit with its name and shape; and a list of ranges has exactly one grouping
+//! in which every range is kept.
 //!
 //! ```text
 //! "a.c"   N_SO        unit 0
@@ -31,6 +32,6 @@ mod sums;
 mod unit_ranges;
 
 pub use instances::{alone, instance_of, kept_of};
-pub use laws::one_ranges;
+pub use laws::{one_alone, one_ranges};
 pub use range::{Grouping, RangeOf};
 pub use reading::ranges;

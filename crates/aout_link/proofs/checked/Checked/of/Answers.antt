@@ -1,4 +1,4 @@
-use Rattle.std.proofs.Common.{◌≡◌, ap, List}
+use Rattle.std.proofs.Common.{◌≡◌, ap}
 use Rattle.std.specs.Prelude.{Err}
 use Rattle.st_base.specs.declared.fault.Refused.TheVariants as refused
 use Rattle.aout_link.proofs.SourceLemmas.{fault_told}
