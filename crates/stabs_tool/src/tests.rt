@@ -2,9 +2,10 @@
 //!
 //! A line of the table begins with its kind. `#` says what the row behind it is about, and is told where the row fails.
 //!
-//! - `file NAME BYTES`: a file from here on. Bytes are two hexadecimal digits each, and texts between quotes; `_` means nothing.
+//! - `file NAME BYTES`: a file from here on. Bytes are two hexadecimal digits each, and texts between quotes; `_` means nothing. Where
+//!   it is an object, its assembly is assembled, and has the same dump.
 //! - `object ORDER NAME ENTRIES`: a file with four bytes of text at 0x1000, four of data, a relocation of each, and these entries,
-//!   each `KIND:NAME`, `KIND@VALUE:NAME` or `KIND@VALUE.DESC:NAME`, the numbers in hexadecimal digits.
+//!   each `KIND:NAME`, `KIND@VALUE:NAME` or `KIND@VALUE.DESC:NAME`, the numbers in hexadecimal digits. It goes the same round.
 //! - `files N`, `sink N`: in the next run the call of this number fails, counted from 0.
 //! - `run WORDS`: the program over all files so far, with these words.
 //! - `carry STATUS NAME BYTES TEXT`: an outcome that stores these bytes under the name and prints the text and a line feed.
@@ -324,6 +325,37 @@ impl Table {
         Ok(())
     }
 
+    /// A command and a name.
+    fn run_on(&mut self, command: &[u8], name: &[u8]) -> Result<(), Fail> {
+        let mut line = Text::of(self.alloc, command)?;
+        line.extend(name)?;
+        self.run(line.bytes())
+    }
+
+    /// The file, if it is an object, is dumped, and so is what its assembly makes: the two dumps are one.
+    fn go_round(&mut self, rt: &impl Abort, name: &[u8]) -> Result<(), Fail> {
+        self.run_on(b"dump ", name)?;
+        if self.status == 0 {
+            let dumped = self.printed.copy(self.alloc)?;
+            let big = dumped.bytes().starts_with(b"order big");
+            self.run_on(b"list ", name)?;
+            self.source = self.printed.copy(self.alloc)?;
+            self.made = self.assemble(
+                rt,
+                if big {
+                    b"big".as_slice()
+                } else {
+                    b"little".as_slice()
+                },
+            )?;
+            self.run(b"dump out.o")?;
+            assert_eq!(rt; self.printed.bytes(), dumped.bytes(), "{}", self.label());
+            self.source.cut(0);
+            self.made.cut(0);
+        }
+        Ok(())
+    }
+
     fn bad(&mut self, rt: &impl Abort, row: &[u8]) -> Result<(), Fail> {
         let (number, rest) = word(row);
         let (place, lines) = word(rest);
@@ -410,6 +442,7 @@ impl Table {
             b"file" => {
                 let (name, spelled) = word(rest);
                 self.hold(name, bytes_of(self.alloc, spelled)?)?;
+                self.go_round(rt, name)?;
             }
             b"object" => {
                 let (order, rest) = word(rest);
@@ -418,6 +451,7 @@ impl Table {
                     name,
                     object(self.alloc, order == b"big".as_slice(), entries)?,
                 )?;
+                self.go_round(rt, name)?;
             }
             b"files" => self.failing_files.push(number_of(10, rest))?,
             b"sink" => self.failing_puts.push(number_of(10, rest))?,
