@@ -95,6 +95,20 @@ ends "$folder" 3 'refused wrong.s 70 2 0' as little wrong.s wrong.o
 ends "$folder" 7 'write fault' as little a.s .
 ends "$folder" 3 'refused a.s 1 0 0' list a.s
 
+# two objects are linked, in either byte order, and the image is asked
+cp crates/stabs_tool/data/b.s "$folder"
+for order in little big; do
+    ends "$folder" 0 '' as "$order" a.s one.o
+    ends "$folder" 0 '' as "$order" b.s two.o
+    ends "$folder" 0 'ranges 4 kept 4 entries 34' link keep 0x1000 image one.o two.o
+    ends "$folder" 0 '0 00001000 00001008 /w/a.c
+1 00001008 0000100c b.c' query image units
+    ends "$folder" 0 '/w/a.c 5 00001004' query image line 0x1006
+done
+ends "$folder" 4 'list 92 0 21 _f' link keep 0x1000 image one.o
+ends "$folder" 5 'absent none.o' link keep 0x1000 image one.o none.o
+ends "$folder" 2 'usage: word 4' link keep 0x0 image
+
 # a source and a file of one byte more than their limits
 truncate -s 16777217 "$folder/long.s"
 ends "$folder" 9 'limit 16777216' as little long.s long.o

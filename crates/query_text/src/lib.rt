@@ -18,6 +18,7 @@ mod units;
 mod vars;
 mod want;
 
+pub use address::address_of;
 pub use laws::{a_reply, one_reply};
 pub use query::Query;
 pub use read::read_query;

@@ -26,15 +26,19 @@ use Rattle.stabs_tool.specs.declared.command.Asked.{Asked}
 use Rattle.stabs_tool.specs.declared.command.Asked.TheVariants as asks
 use Rattle.stabs_tool.specs.declared.inputs.Cause.TheVariants as cause
 use Rattle.stabs_tool.specs.declared.inputs.Inputs.{Inputs}
-use Rattle.stabs_tool.specs.declared.inputs.Inputs.TheVariants.{All, Fault as Faulty, TooMuch}
+use Rattle.stabs_tool.specs.declared.inputs.Inputs.TheVariants.{All, Fault as Faulty, TooMuch, TooMany}
+use Rattle.stabs_tool.specs.declared.limits.TheConstants.{MOST_NAMES}
 use Rattle.stabs_tool.specs.declared.outcome.Content.{Content}
 use Rattle.stabs_tool.specs.declared.outcome.Outcome.{Outcome}
-use Rattle.stabs_tool.specs.declared.outcome.TheConstants.{DONE, USAGE, REFUSED, ABSENT, READ_FAULT, WRITE_FAULT, NO_MEMORY, LIMIT}
+use Rattle.stabs_tool.specs.declared.outcome.TheConstants.{DONE, USAGE, REFUSED, LIST_REFUSED, ABSENT, READ_FAULT, WRITE_FAULT, NO_MEMORY, LIMIT}
 use Rattle.stabs_tool.specs.Commands.{inputs_of, most_of, IsRead, IsWritten, IsWrong}
 use Rattle.stabs_tool.specs.Words.{first}
-use Rattle.stabs_tool.specs.Outcomes.{printed, usage, absent, read_fault, limit, refused, kept, is_status}
+use Rattle.stabs_tool.specs.Outcomes.{printed, usage, absent, read_fault, limit, refused, list_refused, list_refused_at, kept, kept_with, is_status}
 use Rattle.stabs_tool.specs.Causes.{FilesSeen}
 use Rattle.stabs_tool.specs.Inputs.{loaded_inputs, HasCause, IsFailed, IsPlaced, name_at}
+use Rattle.aout_link.specs.Sources.{Source}
+use Rattle.stabs_tool.specs.Objects.{OnEach}
+use Rattle.stabs_tool.specs.Linking.{image_text, entry_name, is_about_name, list_outcome, LinksSources, LinksObjects, LinksFiles}
 use Rattle.stabs_tool.specs.Deciding.{Decided}
 use Rattle.stabs_tool.specs.Replies.{text_end, WorldFault, RepliesOnWorld, RepliesOnObject, OnObject, Dumps, Lists, kept_object, Answers, RepliesTo, Means}
 
@@ -68,6 +72,14 @@ pub prints_refused : (name : List ℕ) (f : Fault) → Prints REFUSED (refused n
 unfolding refused
 prints_refused name f = prints_of REFUSED _
 
+pub prints_list : (f : Fault) → Prints LIST_REFUSED (list_refused f)
+unfolding list_refused
+prints_list f = prints_of LIST_REFUSED _
+
+pub prints_list_at : (f : Fault) (name : List ℕ) → Prints LIST_REFUSED (list_refused_at f name)
+unfolding list_refused_at
+prints_list_at f name = prints_of LIST_REFUSED _
+
 -- ---- outcomes that need no cause
 
 -- where nothing is stored, what is stored has any name
@@ -88,7 +100,7 @@ record IsPlain (Writes : List ℕ → Type 0) (o : Outcome) : Type 0 where
 
 -- the statuses of these
 is_plain : ℕ → Bool
-is_plain number = list_any (λ status. status == number) (DONE ∷ REFUSED ∷ LIMIT ∷ [])
+is_plain number = list_any (λ status. status == number) (DONE ∷ REFUSED ∷ LIST_REFUSED ∷ LIMIT ∷ [])
 
 -- such a status is no other
 differs : (status : ℕ) (o : Outcome) → o.status ≡ status → is_plain status ≡ true → (other : ℕ) → is_plain other ≡ false → o.status ≢ other
@@ -126,6 +138,15 @@ module _ (Writes : List ℕ → Type 0) where
   unfolding is_plain
   plain_limit o p = prints_plain LIMIT o p refl refl
 
+  plain_list : (o : Outcome) → Prints LIST_REFUSED o → IsPlain Writes o
+  unfolding is_plain
+  plain_list o p = prints_plain LIST_REFUSED o p refl refl
+
+  -- one that stores under such a name and prints
+  kept_with_plain : (name bytes text : List ℕ) → Writes name → IsPlain Writes (kept_with name bytes text)
+  unfolding is_plain
+  kept_with_plain name bytes text named = plain_of DONE (kept_with name bytes text) refl refl refl (λ other. absurd (other refl)) named
+
   -- one that stores under such a name
   kept_plain : (name bytes : List ℕ) → Writes name → IsPlain Writes (kept name bytes)
   unfolding is_plain
@@ -158,6 +179,32 @@ module _ (Writes : List ℕ → Type 0) where
   kept_object_plain name out named (Ok object) = kept_plain out (file_of object) named
   kept_object_plain name out named (Err f) = either_plain name f (f.number == TOO_LARGE)
 
+  -- what is said on all of a list, or the refusal of one
+  each_plain : {A B : Type 0} (Holds : A → B → Type 0) (Fails : A → Fault → Type 0) (names : List (List ℕ)) (xs : List A) (Says : List B → Outcome → Type 0)
+      → ((ys : List B) (o : Outcome) → Says ys o → IsPlain Writes o) → (o : Outcome) → OnEach Holds Fails names xs Says o → IsPlain Writes o
+  each_plain Holds Fails names xs Says plain o (inl h) = plain h.0 o h.2
+  each_plain Holds Fails names xs Says plain o (inr h) = refused_plain (name_at names h.0) h.1 o h.3
+
+  -- a fault of a list, which may be a limit or about a name
+  named_plain : (sources : List Source) (f : Fault) (named : Bool) → IsPlain Writes (if named then list_refused_at f (entry_name sources f) else list_refused f)
+  named_plain sources f true = plain_list (list_refused_at f (entry_name sources f)) (prints_list_at f (entry_name sources f))
+  named_plain sources f false = plain_list (list_refused f) (prints_list f)
+
+  list_plain_by : (sources : List Source) (f : Fault) (large named : Bool)
+      → IsPlain Writes (if large then limit f.place else (if named then list_refused_at f (entry_name sources f) else list_refused f))
+  list_plain_by sources f true named = plain_limit (limit f.place) (prints_limit f.place)
+  list_plain_by sources f false named = named_plain sources f named
+
+  list_plain : (sources : List Source) (f : Fault) → IsPlain Writes (list_outcome sources f)
+  list_plain sources f = list_plain_by sources f (f.number == TOO_LARGE) (is_about_name f)
+
+  sources_plain : (base : ℕ) (out : List ℕ) → Writes out → (sources : List Source) (o : Outcome) → LinksSources base out sources o → IsPlain Writes o
+  sources_plain base out named sources o (inl h) = subst (IsPlain Writes) (sym h.3) (kept_with_plain out (file_of h.0.object) (image_text h.0) named)
+  sources_plain base out named sources o (inr h) = subst (IsPlain Writes) (sym h.2) (list_plain sources h.0)
+
+  objects_plain : (base : ℕ) (out : List ℕ) (names : List (List ℕ)) → Writes out → (objects : List Object) (o : Outcome) → LinksObjects base out names objects o → IsPlain Writes o
+  objects_plain base out names named objects o h = each_plain _ _ names objects (LinksSources base out) (sources_plain base out named) o h
+
 answers_plain : (command : Command) (texts : List (List ℕ)) (o : Outcome) → Answers command texts o → IsPlain (IsWritten (asks.Command command)) o
 answers_plain (commands.Query file query) texts o h =
     object_plain _ file (first texts) (RepliesOnObject file query) (world_plain _ file query) o h
@@ -166,6 +213,8 @@ answers_plain (commands.List file) texts o h = object_plain _ file (first texts)
 answers_plain (commands.As order file out) texts o h =
     let made = assembled order (read_source (first texts)) in
     subst (IsPlain (IsWritten (asks.Command (commands.As order file out)))) (sym h) (kept_object_plain _ file out refl made)
+answers_plain (commands.Link base out names) texts o h =
+    each_plain _ _ _ names texts (LinksObjects base out names) (objects_plain _ base out names refl) o h
 
 -- what is decided on, the files being f before and g after it
 abbrev pub IsDecided : Asked → FilesSeen → FilesSeen → Outcome → Type 0
@@ -268,6 +317,7 @@ module _ (command : Command) where
     by_inputs (Faulty at cause.Long) t h o r = plain (Faulty at cause.Long) o (subst (IsPlain (IsWritten (asks.Command command))) (sym r) (plain_limit _ (limit (most_of command)) (prints_limit (most_of command)))) t (λ x. x) r
     by_inputs (Faulty at cause.Failed) t h o r = subst Goal (sym r) (failed_decided at h)
     by_inputs TooMuch t h o r = plain TooMuch o (subst (IsPlain (IsWritten (asks.Command command))) (sym r) (plain_limit _ (limit FILE_LIMIT) (prints_limit FILE_LIMIT))) t (λ x. x) r
+    by_inputs TooMany t h o r = plain TooMany o (subst (IsPlain (IsWritten (asks.Command command))) (sym r) (plain_limit _ (limit MOST_NAMES) (prints_limit MOST_NAMES))) t (λ x. x) r
 
     by_result : {E : Type 0} (inputs : Inputs) (res : Result Outcome E) → Told f inputs → HasCause f.held f.loads g.loads g.last names inputs → IfOk res (RepliesTo command inputs) → IfOk res Goal
     by_result inputs (Err e) t h r = tt
@@ -290,6 +340,7 @@ placed_of held before now last loaded (Faulty at cause.Absent) h = h.0
 placed_of held before now last loaded (Faulty at cause.Long) h = h
 placed_of held before now last loaded (Faulty at cause.Failed) h = h.0
 placed_of held before now last loaded TooMuch h = tt
+placed_of held before now last loaded TooMany h = tt
 
 -- ---- what is replied on the bytes of a file
 
@@ -324,3 +375,9 @@ pub by_command : {E : Type 0} (command of : Command) (texts : List (List ℕ)) (
 by_command command of texts name read Says (Err e) said same is answers = tt
 by_command command of texts name read Says (Ok o) said same is answers =
     subst (λ (z : Command). Answers z texts o) (sym is) (answers o (subst (λ (z : List ℕ). OnObject name z Says o) same said))
+
+-- the image of the files that were read is the answer to the command
+pub by_link : {E : Type 0} (command : Command) (base : ℕ) (out : List ℕ) (files texts : List (List ℕ)) (res : Result Outcome E)
+    → IfOk res (LinksFiles base out files texts) → command ≡ commands.Link base out files → IfOk res (Answers command texts)
+by_link command base out files texts (Err e) said is = tt
+by_link command base out files texts (Ok o) said is = subst (λ (z : Command). Answers z texts o) (sym is) said

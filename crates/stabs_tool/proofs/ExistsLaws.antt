@@ -1,7 +1,7 @@
 -- Words have an outcome over all contents that are bytes.
-use Rattle.std.proofs.Common.{◌≡◌, ◌⊎◌, inl, inr, ℕ, zero, suc, ◌+◌, Bool, true, false, List, [], ◌∷◌, ◌++◌, length, Option, Some, None, refl}
-use Rattle.std.specs.Prelude.{nat_lt, if◌then◌else◌}
-use Rattle.std.specs.List.{sum_by}
+use Rattle.std.proofs.Common.{◌≡◌, ◌⊎◌, inl, inr, ℕ, ◌+◌, Bool, true, false, List, [], ◌∷◌, ◌++◌, length, Option, Some, None, refl}
+use Rattle.std.specs.Prelude.{nat_lt, if◌then◌else◌, All as All'}
+use Rattle.std.specs.List.{sum_by, AllByRecursion}
 use Rattle.std.specs.FinMap.{get}
 use Rattle.outside.specs.Causes.{Contents}
 use Rattle.st_base.specs.Number.{IsBytes}
@@ -14,7 +14,11 @@ use Rattle.nlist_codec.specs.declared.named.Named.{Named}
 use Rattle.stab_units.specs.declared.unit.Unit.{Unit as UnitOf}
 use Rattle.stab_units.specs.Worlds.{AreUnits, UnitsFault}
 use Rattle.type_graph.specs.declared.world.World.{World}
-use Rattle.type_graph.specs.Worlds.{IsWorldOf, externals_of}
+use Rattle.type_graph.specs.Worlds.{externals_of}
+use Rattle.st_base.specs.declared.fault.Refused.TheVariants as refusals
+use Rattle.aout_link.specs.Sources.{Source, IsLawful, HasUnits}
+use Rattle.aout_link.specs.Linking.{IsLinked, RefusesLink}
+use Rattle.aout_link.specs.declared.linking.Image.{Image}
 use Rattle.query_text.specs.declared.query.Query.{Query}
 use Rattle.query_text.specs.Replies as replies
 use Rattle.stabs_tool.specs.declared.command.Command.{Command}
@@ -23,7 +27,8 @@ use Rattle.stabs_tool.specs.declared.command.Asked.{Asked}
 use Rattle.stabs_tool.specs.declared.command.Asked.TheVariants as asks
 use Rattle.stabs_tool.specs.declared.inputs.Cause.TheVariants as cause
 use Rattle.stabs_tool.specs.declared.inputs.Inputs.{Inputs}
-use Rattle.stabs_tool.specs.declared.inputs.Inputs.TheVariants.{All, Fault as Faulty, TooMuch}
+use Rattle.stabs_tool.specs.declared.inputs.Inputs.TheVariants.{All, Fault as Faulty, TooMuch, TooMany}
+use Rattle.stabs_tool.specs.declared.limits.TheConstants.{MOST_NAMES}
 use Rattle.stabs_tool.specs.declared.outcome.Outcome.{Outcome}
 use Rattle.stabs_tool.specs.declared.outcome.TheConstants.{DONE}
 use Rattle.stabs_asm.specs.Assembling.{assembled}
@@ -32,9 +37,10 @@ use Rattle.stabs_asm.specs.Listing.{listing}
 use Rattle.stabs_tool.specs.Dump.{dump_text}
 use Rattle.stabs_tool.specs.Words.{first}
 use Rattle.stabs_tool.specs.Commands.{asked, inputs_of, most_of}
-use Rattle.stabs_tool.specs.Inputs.{loaded_inputs, inputs_from, after_content, name_at}
+use Rattle.stabs_tool.specs.Inputs.{loaded_inputs, few_inputs, inputs_from, after_content, name_at}
 use Rattle.stabs_tool.specs.Outcomes.{printed, usage, absent, read_fault, limit, refused}
 use Rattle.stabs_tool.specs.Replies.{text_end, RepliesOnWorld, RepliesOnObject, OnObject, Dumps, Lists, kept_object, Answers, RepliesTo, Means, IsOutcome, AreBytes}
+use Rattle.stabs_tool.proofs.LinkLaws.{on_files}
 
 -- ---- what is loaded is bytes
 
@@ -46,6 +52,10 @@ AllBytes (text ∷ texts) = IsBytes text × AllBytes texts
 all_bytes-push : (texts : List (List ℕ)) (text : List ℕ) → AllBytes texts → IsBytes text → AllBytes (texts ++ text ∷ [])
 all_bytes-push [] text all one = (one, tt)
 all_bytes-push (t ∷ texts) text all one = (all.0, all_bytes-push texts text all.1 one)
+
+all_by_recursion : (texts : List (List ℕ)) → AllBytes texts → AllByRecursion IsBytes texts
+all_by_recursion [] all = tt
+all_by_recursion (text ∷ texts) all = (all.0, all_by_recursion texts all.1)
 
 first_bytes : (texts : List (List ℕ)) → AllBytes texts → IsBytes (first texts)
 first_bytes [] all = tt
@@ -76,11 +86,22 @@ loaded_bytes m are most total texts at (name ∷ names) all =
     content_bytes m are name most at (λ text. inputs_from m most total (texts ++ text ∷ []) (at + 1) names)
     (λ text one. loaded_bytes m are most total (texts ++ text ∷ []) (at + 1) names (all_bytes-push texts text all one)) (get m name) refl
 
+-- unless the names are too many
+all_inputs_bytes : (inputs : Inputs) → HasBytes inputs → (many : Bool) → HasBytes (if many then TooMany else inputs)
+all_inputs_bytes inputs all true = tt
+all_inputs_bytes inputs all false = all
+
+all_loaded_bytes : (m : Contents) (are : AreBytes m) (most total : ℕ) (names : List (List ℕ)) → HasBytes (loaded_inputs m most total names)
+all_loaded_bytes m are most total names =
+    all_inputs_bytes (few_inputs m most total names) (loaded_bytes m are most total [] 0 names tt) (nat_lt MOST_NAMES (length names))
+
 -- ---- an outcome
 
 module _ (some : (end : ℕ) (entries : List Named) → ((units : List UnitOf) × AreUnits end entries units) ⊎ ((f : Fault) × UnitsFault end entries f))
     (object_or_fault : (bytes : List ℕ) → IsBytes bytes → ((object : Object) × ObjectSpells object bytes) ⊎ ((f : Fault) × FileFault bytes f))
-    (a_reply : (world : World) (query : Query) → (text : List ℕ) × replies.Answers world query text) where
+    (a_reply : (world : World) (query : Query) → (text : List ℕ) × replies.Answers world query text)
+    (image_or_fault : (base : ℕ) (os : List Source) (old : ℕ) → All' IsLawful os → All' HasUnits os
+    → ((new : ℕ) × (image : Image) × IsLinked base os old new image) ⊎ ((f : Fault) × RefusesLink base os (refusals.At f))) where
   on_world : (query : Query) (world : World) → (o : Outcome) × RepliesOnWorld query world o
   on_world query world = let r = a_reply world query in (printed DONE r.0, (r.0, r.1, refl))
 
@@ -106,6 +127,7 @@ module _ (some : (end : ℕ) (entries : List Named) → ((units : List UnitOf) �
   an_answer (commands.Dump file) texts all = on_file file (first texts) Dumps (λ object. (printed DONE (dump_text object), refl)) (first_bytes texts all)
   an_answer (commands.List file) texts all = on_file file (first texts) Lists (λ object. (printed DONE (listing object), refl)) (first_bytes texts all)
   an_answer (commands.As order file out) texts all = (kept_object file out (assembled order (read_source (first texts))), refl)
+  an_answer (commands.Link base out names) texts all = on_files some object_or_fault image_or_fault base out names texts (all_by_recursion texts all)
 
   a_result : (command : Command) (inputs : Inputs) → HasBytes inputs → (o : Outcome) × RepliesTo command inputs o
   a_result command (All texts) all = an_answer command texts all
@@ -113,11 +135,12 @@ module _ (some : (end : ℕ) (entries : List Named) → ((units : List UnitOf) �
   a_result command (Faulty at cause.Long) all = (limit (most_of command), refl)
   a_result command (Faulty at cause.Failed) all = (read_fault (name_at (inputs_of command) at), refl)
   a_result command TooMuch all = (limit FILE_LIMIT, refl)
+  a_result command TooMany all = (limit MOST_NAMES, refl)
 
   a_meaning : (a : Asked) (m : Contents) → AreBytes m → (o : Outcome) × Means a m o
   a_meaning (asks.Wrong at) m are = (usage at, refl)
   a_meaning (asks.Command command) m are =
-      a_result command (loaded_inputs m (most_of command) FILE_LIMIT (inputs_of command)) (loaded_bytes m are (most_of command) FILE_LIMIT [] 0 (inputs_of command) tt)
+      a_result command (loaded_inputs m (most_of command) FILE_LIMIT (inputs_of command)) (all_loaded_bytes m are (most_of command) FILE_LIMIT (inputs_of command))
 
   -- words have an outcome
   pub outcome_exists : (words : List (List ℕ)) (m : Contents) → AreBytes m → (o : Outcome) × IsOutcome words m o

@@ -1,5 +1,5 @@
 -- Words have one outcome at most.
-use Rattle.std.proofs.Common.{◌≡◌, ℕ, List, Option, Some, inl, inr, refl, sym, ap, subst, ◌∙◌}
+use Rattle.std.proofs.Common.{◌≡◌, ℕ, List, inl, inr, sym, ap, subst, ◌∙◌}
 use Rattle.outside.specs.Causes.{Contents}
 use Rattle.st_base.specs.Number.{IsBytes}
 use Rattle.st_base.specs.declared.fault.Fault.{Fault}
@@ -12,6 +12,10 @@ use Rattle.stab_units.specs.Worlds.{AreUnits, UnitsFault}
 use Rattle.type_graph.specs.declared.world.External.{External}
 use Rattle.type_graph.specs.declared.world.World.{World}
 use Rattle.type_graph.specs.Worlds.{IsWorldOf}
+use Rattle.st_base.specs.declared.fault.Refused.TheVariants as refusals
+use Rattle.aout_link.specs.Sources.{Source}
+use Rattle.aout_link.specs.Linking.{IsLinked, RefusesLink}
+use Rattle.aout_link.specs.declared.linking.Image.{Image}
 use Rattle.query_text.specs.declared.query.Query.{Query}
 use Rattle.query_text.specs.Replies as replies
 use Rattle.stabs_tool.specs.declared.command.Command.{Command}
@@ -20,13 +24,14 @@ use Rattle.stabs_tool.specs.declared.command.Asked.{Asked}
 use Rattle.stabs_tool.specs.declared.command.Asked.TheVariants as asks
 use Rattle.stabs_tool.specs.declared.inputs.Cause.TheVariants as cause
 use Rattle.stabs_tool.specs.declared.inputs.Inputs.{Inputs}
-use Rattle.stabs_tool.specs.declared.inputs.Inputs.TheVariants.{All, Fault as Faulty, TooMuch}
+use Rattle.stabs_tool.specs.declared.inputs.Inputs.TheVariants.{All, Fault as Faulty, TooMuch, TooMany}
 use Rattle.stabs_tool.specs.declared.outcome.Outcome.{Outcome}
 use Rattle.stabs_tool.specs.declared.outcome.TheConstants.{DONE}
 use Rattle.stabs_tool.specs.Words.{first}
 use Rattle.stabs_tool.specs.Commands.{asked}
 use Rattle.stabs_tool.specs.Outcomes.{printed, refused}
 use Rattle.stabs_tool.specs.Replies.{text_end, RepliesOnWorld, RepliesOnObject, OnObject, Dumps, Lists, Answers, RepliesTo, Means, IsOutcome}
+use Rattle.stabs_tool.proofs.LinkLaws.{files_once}
 
 -- ---- one world
 
@@ -50,7 +55,10 @@ module _ (one_list : (end : ℕ) (entries : List Named) (us vs : List Unit) → 
   module _ (one_object : (one other : Object) (bytes : List ℕ) → IsBytes bytes → ObjectSpells one bytes → ObjectSpells other bytes → one ≡ other)
       (one_refusal : (bytes : List ℕ) (one other : Fault) → FileFault bytes one → FileFault bytes other → one ≡ other)
       (object_or_refusal : (bytes : List ℕ) (object : Object) (f : Fault) → IsBytes bytes → ObjectSpells object bytes → FileFault bytes f → ⊥)
-      (one_reply : (world : World) (query : Query) (text other : List ℕ) → replies.Answers world query text → replies.Answers world query other → text ≡ other) where
+      (one_reply : (world : World) (query : Query) (text other : List ℕ) → replies.Answers world query text → replies.Answers world query other → text ≡ other)
+      (one_image : (base : ℕ) (os : List Source) (old new other : ℕ) (image second : Image) → IsLinked base os old new image → IsLinked base os old other second → image ≡ second)
+      (one_list_fault : (base : ℕ) (os : List Source) (f g : Fault) → RefusesLink base os (refusals.At f) → RefusesLink base os (refusals.At g) → f ≡ g)
+      (linked_or_not : (base : ℕ) (os : List Source) (old new : ℕ) (image : Image) (f : Fault) → IsLinked base os old new image → RefusesLink base os (refusals.At f) → ⊥) where
     on_world_once : (query : Query) (world : World) (o other : Outcome) → RepliesOnWorld query world o → RepliesOnWorld query world other → o ≡ other
     on_world_once query world o other p q = p.2 ∙ ap (printed DONE) (one_reply world query p.0 q.0 p.1 q.1) ∙ sym q.2
 
@@ -76,6 +84,8 @@ module _ (one_list : (end : ℕ) (entries : List Named) (us vs : List Unit) → 
     answers_once (commands.Dump file) texts o other p q = on_file_once file (first texts) Dumps (λ object one two h k. h ∙ sym k) o other p q
     answers_once (commands.List file) texts o other p q = on_file_once file (first texts) Lists (λ object one two h k. h ∙ sym k) o other p q
     answers_once (commands.As order file out) texts o other p q = p ∙ sym q
+    answers_once (commands.Link base out names) texts o other p q =
+        files_once one_fault not_both one_object one_refusal object_or_refusal one_image one_list_fault linked_or_not base out names texts o other p q
 
     replies_once : (command : Command) (inputs : Inputs) (o other : Outcome) → RepliesTo command inputs o → RepliesTo command inputs other → o ≡ other
     replies_once command (All texts) o other p q = answers_once command texts o other p q
@@ -83,6 +93,7 @@ module _ (one_list : (end : ℕ) (entries : List Named) (us vs : List Unit) → 
     replies_once command (Faulty at cause.Long) o other p q = p ∙ sym q
     replies_once command (Faulty at cause.Failed) o other p q = p ∙ sym q
     replies_once command TooMuch o other p q = p ∙ sym q
+    replies_once command TooMany o other p q = p ∙ sym q
 
     means_once : (a : Asked) (m : Contents) (o other : Outcome) → Means a m o → Means a m other → o ≡ other
     means_once (asks.Wrong at) m o other p q = p ∙ sym q

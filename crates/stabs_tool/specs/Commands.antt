@@ -2,12 +2,13 @@
 use Rattle.std.specs.Prelude.{◌≡◌, ℕ, ◌+◌, max, List, [], ◌∷◌, length, drop, Option, Some, None, unwrap_or, Contains, Result, Ok, Err}
 use Rattle.st_base.specs.declared.sizes.TheConstants.{FILE_LIMIT}
 use Rattle.stabs_asm.specs.declared.limits.TheConstants.{SOURCE_LIMIT}
+use Rattle.stabs_tool.specs.declared.limits.TheConstants.{OBJECT_LIMIT}
 use Rattle.st_base.specs.declared.order.Order.{Order}
 use Rattle.st_base.specs.declared.order.Order.TheVariants.{Little}
 use Rattle.query_text.specs.declared.query.Query.{Query}
 use Rattle.query_text.specs.Queries as queries
 use Rattle.stabs_tool.specs.declared.words.Want.{Want}
-use Rattle.stabs_tool.specs.declared.words.Want.TheVariants.{This, Any, Order as Order'}
+use Rattle.stabs_tool.specs.declared.words.Want.TheVariants.{This, Any, Order as Order', Base as Base'}
 use Rattle.stabs_tool.specs.declared.words.Keyword.TheVariants as keywords
 use Rattle.stabs_tool.specs.declared.words.Operand.TheVariants as operands
 use Rattle.stabs_tool.specs.declared.command.Form.{Form}
@@ -16,7 +17,7 @@ use Rattle.stabs_tool.specs.declared.command.Command.{Command}
 use Rattle.stabs_tool.specs.declared.command.Command.TheVariants as commands
 use Rattle.stabs_tool.specs.declared.command.Asked.{Asked}
 use Rattle.stabs_tool.specs.declared.command.Asked.TheVariants as asks
-use Rattle.stabs_tool.specs.Words.{word_of, wrong_front, order_of}
+use Rattle.stabs_tool.specs.Words.{word_of, wrong_front, order_of, base_of, first_no_text}
 
 -- ---- the forms of command lines
 
@@ -30,10 +31,12 @@ places_of forms.Dump = This keywords.Dump ∷ Any operands.File ∷ []
 places_of forms.List = This keywords.List ∷ Any operands.File ∷ []
 -- `as ORDER IN OUT`
 places_of forms.As = This keywords.As ∷ Order' ∷ Any operands.File ∷ Any operands.Out ∷ []
+-- `link keep ADDR OUT OBJ`, and more words that are OBJ
+places_of forms.Link = This keywords.Link ∷ This keywords.Keep ∷ Base' ∷ Any operands.Out ∷ Any operands.File ∷ []
 
 -- all forms
 abbrev pub all_forms : List Form
-all_forms = forms.Query ∷ forms.Dump ∷ forms.List ∷ forms.As ∷ []
+all_forms = forms.Query ∷ forms.Dump ∷ forms.List ∷ forms.As ∷ forms.Link ∷ []
 
 -- the words that follow those of the places
 abbrev pub rest_of : Form → List (List ℕ) → List (List ℕ)
@@ -50,6 +53,14 @@ out_of form words = word_of operands.Out (places_of form) words
 -- the byte order that ORDER names
 abbrev pub order_in : Form → List (List ℕ) → Order
 order_in form words = unwrap_or (order_of (word_of operands.Order (places_of form) words)) Little
+
+-- the address that ADDR spells
+abbrev pub base_in : Form → List (List ℕ) → ℕ
+base_in form words = unwrap_or (base_of (word_of operands.Base (places_of form) words)) 0
+
+-- the words that are OBJ, in order: the one of the places, and those that follow
+abbrev pub objects_in : Form → List (List ℕ) → List (List ℕ)
+objects_in form words = file_of form words ∷ rest_of form words
 
 -- ---- what words ask
 
@@ -72,12 +83,18 @@ unless_wrong (Some at) asked = asks.Wrong at
 abbrev pub alone : Form → List (List ℕ) → Command → Asked
 alone form words command = unless_wrong (too_many (length (places_of form)) (rest_of form words)) (asks.Command command)
 
+-- the command of words behind whose places more may follow, as long as they are UTF-8
+abbrev pub with_texts : Form → List (List ℕ) → Command → Asked
+with_texts form words command = unless_wrong (first_no_text (length (places_of form)) (rest_of form words)) (asks.Command command)
+
 -- the command of words whose front is what the places want; or the place of the first wrong word behind it
 abbrev pub command_of : Form → List (List ℕ) → Asked
 command_of forms.Query words = with_query (file_of forms.Query words) (queries.asked (rest_of forms.Query words))
 command_of forms.Dump words = alone forms.Dump words (commands.Dump (file_of forms.Dump words))
 command_of forms.List words = alone forms.List words (commands.List (file_of forms.List words))
 command_of forms.As words = alone forms.As words (commands.As (order_in forms.As words) (file_of forms.As words) (out_of forms.As words))
+command_of forms.Link words =
+    with_texts forms.Link words (commands.Link (base_in forms.Link words) (out_of forms.Link words) (objects_in forms.Link words))
 
 -- what the words ask in a form: its command, or the place up to which they are of this form
 abbrev pub asked_in : Form → List (List ℕ) → Asked
@@ -105,6 +122,7 @@ inputs_of (commands.Query file query) = file ∷ []
 inputs_of (commands.Dump file) = file ∷ []
 inputs_of (commands.List file) = file ∷ []
 inputs_of (commands.As order file out) = file ∷ []
+inputs_of (commands.Link base out objects) = objects
 
 -- the file that a command stores, if it stores one
 abbrev pub output_of : Command → Option (List ℕ)
@@ -112,6 +130,7 @@ output_of (commands.Query file query) = None
 output_of (commands.Dump file) = None
 output_of (commands.List file) = None
 output_of (commands.As order file out) = Some out
+output_of (commands.Link base out objects) = Some out
 
 -- the most bytes of each file that a command reads
 abbrev pub most_of : Command → ℕ
@@ -119,6 +138,7 @@ most_of (commands.Query file query) = FILE_LIMIT
 most_of (commands.Dump file) = FILE_LIMIT
 most_of (commands.List file) = FILE_LIMIT
 most_of (commands.As order file out) = SOURCE_LIMIT
+most_of (commands.Link base out objects) = OBJECT_LIMIT
 
 -- the place of the wrong word
 abbrev pub IsWrong : Asked → ℕ → Type 0

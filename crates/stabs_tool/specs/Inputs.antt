@@ -1,11 +1,12 @@
--- What loading the inputs of a command comes to: the first that fails, or the contents of all in order. This is this project's own.
+-- What loading the inputs of a command comes to: too many of them, the first that fails, or the contents of all in order. This is this project's own.
 use Rattle.std.specs.Prelude.{◌≡◌, ◌<◌, ◌+◌, ℕ, nat_lt, if◌then◌else◌, List, [], ◌∷◌, ◌++◌, length, slice_index_or, Option, Some, None}
 use Rattle.std.specs.List.{sum_by}
 use Rattle.std.specs.FinMap.{get}
 use Rattle.outside.specs.Causes.{Contents, Rose}
 use Rattle.stabs_tool.specs.declared.inputs.Cause.TheVariants as cause
 use Rattle.stabs_tool.specs.declared.inputs.Inputs.{Inputs}
-use Rattle.stabs_tool.specs.declared.inputs.Inputs.TheVariants.{All, Fault, TooMuch}
+use Rattle.stabs_tool.specs.declared.inputs.Inputs.TheVariants.{All, Fault, TooMuch, TooMany}
+use Rattle.stabs_tool.specs.declared.limits.TheConstants.{MOST_NAMES}
 use Rattle.stabs_tool.specs.Causes.{Lacks}
 
 -- ---- over files that tell their contents and do not fail
@@ -25,9 +26,14 @@ inputs_from m most total texts at [] = within_total total texts
 inputs_from m most total texts at (name ∷ names) =
     after_content most at (λ text. inputs_from m most total (texts ++ text ∷ []) (at + 1) names) (get m name)
 
--- what all names come to: the first that is absent or has more than `most` bytes, else all contents, if they are within the total
+-- what names come to that are not too many: the first that is absent or has more than `most` bytes, else all contents, if they are
+-- within the total
+abbrev pub few_inputs : Contents → ℕ → ℕ → List (List ℕ) → Inputs
+few_inputs m most total names = inputs_from m most total [] 0 names
+
+-- what all names come to, unless they are too many
 abbrev pub loaded_inputs : Contents → ℕ → ℕ → List (List ℕ) → Inputs
-loaded_inputs m most total names = inputs_from m most total [] 0 names
+loaded_inputs m most total names = if nat_lt MOST_NAMES (length names) then TooMany else few_inputs m most total names
 
 -- ---- causes
 
@@ -48,6 +54,7 @@ HasCause held before now last names (Fault at cause.Long) = at < length names
 HasCause held before now last names (Fault at cause.Failed) = (at < length names) × Rose before now × (last ≡ Some (name_at names at))
 HasCause held before now last names (All texts) = length texts ≡ length names
 HasCause held before now last names TooMuch = Unit {0}
+HasCause held before now last names TooMany = Unit {0}
 
 -- the place of a fault is that of a name
 abbrev pub IsPlaced : List (List ℕ) → Inputs → Type 0

@@ -4,6 +4,8 @@ pub mod Outcomes
 pub mod Causes
 pub mod Inputs
 pub mod Dump
+pub mod Objects
+pub mod Linking
 pub mod Replies
 pub mod Carrying
 pub mod Deciding

@@ -58,11 +58,23 @@ refused name f = line REFUSED (codes "refused " ++ shown name ++ 32 ∷ fault_te
 abbrev pub refused_or_limit : List ℕ → Fault → Outcome
 refused_or_limit name f = if f.number == TOO_LARGE then limit f.place else refused name f
 
+-- `list N P W`
+unfoldable pub list_refused : Fault → Outcome
+list_refused f = line LIST_REFUSED (codes "list " ++ fault_text f)
+
+-- `list N P W NAME`, the name that the fault is about
+unfoldable pub list_refused_at : Fault → List ℕ → Outcome
+list_refused_at f name = line LIST_REFUSED (codes "list " ++ fault_text f ++ 32 ∷ shown name)
+
 -- the line that is printed where storing failed
 abbrev pub write_fault_text : List ℕ
 write_fault_text = codes "write fault\n"
 
 -- ---- what is stored
+
+-- these bytes are stored under a name, and a text is printed
+abbrev pub kept_with : List ℕ → List ℕ → List ℕ → Outcome
+kept_with name bytes text = record { status = DONE; text = text; stored = Some (record { name = name; bytes = bytes }) }
 
 -- these bytes are stored under a name, and nothing is printed
 abbrev pub kept : List ℕ → List ℕ → Outcome

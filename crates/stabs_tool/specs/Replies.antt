@@ -22,13 +22,15 @@ use Rattle.stabs_tool.specs.declared.command.Asked.{Asked}
 use Rattle.stabs_tool.specs.declared.command.Asked.TheVariants as asks
 use Rattle.stabs_tool.specs.declared.inputs.Cause.TheVariants as cause
 use Rattle.stabs_tool.specs.declared.inputs.Inputs.{Inputs}
-use Rattle.stabs_tool.specs.declared.inputs.Inputs.TheVariants.{All, Fault as Faulty, TooMuch}
+use Rattle.stabs_tool.specs.declared.inputs.Inputs.TheVariants.{All, Fault as Faulty, TooMuch, TooMany}
+use Rattle.stabs_tool.specs.declared.limits.TheConstants.{MOST_NAMES}
 use Rattle.stabs_tool.specs.declared.outcome.Outcome.{Outcome}
 use Rattle.stabs_tool.specs.declared.outcome.TheConstants.{DONE}
 use Rattle.stabs_tool.specs.Words.{first}
 use Rattle.stabs_tool.specs.Dump.{dump_text}
 use Rattle.stabs_tool.specs.Commands.{asked, inputs_of, most_of}
 use Rattle.stabs_tool.specs.Inputs.{loaded_inputs, name_at}
+use Rattle.stabs_tool.specs.Linking.{LinksFiles}
 use Rattle.stabs_tool.specs.Outcomes.{printed, usage, absent, read_fault, limit, refused, refused_or_limit, kept}
 
 -- ---- the world of an object
@@ -86,6 +88,7 @@ Answers (commands.Query file query) texts o = OnObject file (first texts) (Repli
 Answers (commands.Dump file) texts o = OnObject file (first texts) Dumps o
 Answers (commands.List file) texts o = OnObject file (first texts) Lists o
 Answers (commands.As order file out) texts o = o ≡ kept_object file out (assembled order (read_source (first texts)))
+Answers (commands.Link base out names) texts o = LinksFiles base out names texts o
 
 -- the outcome of a command whose inputs come to this
 abbrev pub RepliesTo : Command → Inputs → Outcome → Type 0
@@ -94,6 +97,7 @@ RepliesTo command (Faulty at cause.Absent) o = o ≡ absent (name_at (inputs_of 
 RepliesTo command (Faulty at cause.Long) o = o ≡ limit (most_of command)
 RepliesTo command (Faulty at cause.Failed) o = o ≡ read_fault (name_at (inputs_of command) at)
 RepliesTo command TooMuch o = o ≡ limit FILE_LIMIT
+RepliesTo command TooMany o = o ≡ limit MOST_NAMES
 
 -- the outcome of what was asked, over these contents
 abbrev pub Means : Asked → Contents → Outcome → Type 0

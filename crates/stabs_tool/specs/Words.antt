@@ -1,14 +1,15 @@
 -- The words of a command line: what each place of a command wants, and which word is wrong. This is this project's own.
-use Rattle.std.specs.Prelude.{ℕ, ◌+◌, Bool, false, true, ◌&&◌, if◌then◌else◌, List, [], ◌∷◌, length, take, codes, Option, Some, None, is_some}
+use Rattle.std.specs.Prelude.{ℕ, ◌+◌, Bool, false, true, ◌&&◌, if◌then◌else◌, ◌%◌, ◌==◌, List, [], ◌∷◌, length, take, codes, Option, Some, None, is_some}
 use Rattle.std.specs.Str.{bytes_eq, is_utf8}
 use Rattle.st_base.specs.declared.order.Order.{Order}
 use Rattle.st_base.specs.declared.order.Order.TheVariants as orders
+use Rattle.query_text.specs.Words.{spelled_address}
 use Rattle.stabs_tool.specs.declared.words.Keyword.{Keyword}
 use Rattle.stabs_tool.specs.declared.words.Keyword.TheVariants as keywords
 use Rattle.stabs_tool.specs.declared.words.Operand.{Operand}
 use Rattle.stabs_tool.specs.declared.words.Operand.TheVariants as operands
 use Rattle.stabs_tool.specs.declared.words.Want.{Want}
-use Rattle.stabs_tool.specs.declared.words.Want.TheVariants.{This, Any, Order as Order'}
+use Rattle.stabs_tool.specs.declared.words.Want.TheVariants.{This, Any, Order as Order', Base as Base'}
 
 -- ---- words
 
@@ -22,11 +23,22 @@ keyword_text keywords.Query = codes "query"
 keyword_text keywords.Dump = codes "dump"
 keyword_text keywords.List = codes "list"
 keyword_text keywords.As = codes "as"
+keyword_text keywords.Link = codes "link"
+keyword_text keywords.Keep = codes "keep"
 
 -- the byte order that a word names
 abbrev pub order_of : List ℕ → Option Order
 order_of word =
     if bytes_eq word (codes "little") then Some orders.Little else (if bytes_eq word (codes "big") then Some orders.Big else None)
+
+-- an address that is a multiple of 4, as the base of an image is
+abbrev pub aligned : Option ℕ → Option ℕ
+aligned None = None
+aligned (Some address) = if address % 4 == 0 then Some address else None
+
+-- the base address that a word spells
+abbrev pub base_of : List ℕ → Option ℕ
+base_of word = aligned (spelled_address word)
 
 -- ---- places
 
@@ -35,6 +47,7 @@ abbrev pub is_wanted : Want → List ℕ → Bool
 is_wanted (This keyword) word = bytes_eq word (keyword_text keyword)
 is_wanted (Any operand) word = true
 is_wanted Order' word = is_some (order_of word)
+is_wanted Base' word = is_some (base_of word)
 
 -- the place holds what it wants, and that is UTF-8
 abbrev pub holds : Want → List ℕ → Bool
@@ -56,6 +69,11 @@ wrong_place places words = wrong_from 0 places words
 abbrev pub wrong_front : List Want → List (List ℕ) → Option ℕ
 wrong_front places words = wrong_place places (take (length places) words)
 
+-- the first word that is not UTF-8, `at` of them standing before
+abbrev pub first_no_text : ℕ → List (List ℕ) → Option ℕ
+first_no_text at [] = None
+first_no_text at (word ∷ words) = if is_text word then first_no_text (at + 1) words else Some at
+
 -- ---- operands
 
 -- the two are one operand
@@ -63,6 +81,7 @@ abbrev pub same_operand : Operand → Operand → Bool
 same_operand operands.File operands.File = true
 same_operand operands.Out operands.Out = true
 same_operand operands.Order operands.Order = true
+same_operand operands.Base operands.Base = true
 same_operand _ _ = false
 
 -- the place wants this operand
@@ -70,6 +89,7 @@ abbrev pub is_operand : Operand → Want → Bool
 is_operand operand (This keyword) = false
 is_operand operand (Any other) = same_operand operand other
 is_operand operand Order' = same_operand operand operands.Order
+is_operand operand Base' = same_operand operand operands.Base
 
 -- the first word of a line; empty where there is none
 abbrev pub first : List (List ℕ) → List ℕ

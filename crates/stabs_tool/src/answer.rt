@@ -13,6 +13,8 @@ ghost use Rattle.stabs_asm.specs.Lines.{read_source};
 use crate::command::{Command, most_of};
 use crate::dump::dump_text;
 use crate::inputs::{Cause, Inputs};
+use crate::limits::MOST_NAMES;
+use crate::linking::link_files;
 use crate::outcome::{
     DONE, Outcome, absent, kept, limit, printed, read_fault, refused, refused_or_limit,
 };
@@ -138,6 +140,13 @@ fn answer(alloc: Global, command: &Command, texts: &[Text]) -> Result<Outcome, M
             out.bytes(),
             first(texts),
         ),
+        Command::Link { base, out, objects } => link_files(
+            alloc,
+            *base,
+            out.bytes(),
+            objects.items(),
+            texts,
+        ),
     }
 }
 
@@ -158,5 +167,6 @@ pub fn reply(
         Inputs::Fault(_, Cause::Long) => limit(alloc, most_of(command)),
         Inputs::Fault(at, Cause::Failed) => read_fault(alloc, names[*at].bytes()),
         Inputs::TooMuch => limit(alloc, FILE_LIMIT),
+        Inputs::TooMany => limit(alloc, MOST_NAMES),
     }
 }

@@ -1,9 +1,12 @@
 //! What words ask: a command with its operands, or the place of the wrong word.
 
-ghost use Rattle.std.specs.Prelude.{◌≡◌, ◌≤◌, IfOk, length};
+ghost use Rattle.std.specs.Prelude.{◌≡◌, ◌≤◌, ◌++◌, IfOk, OnOk, length, drop};
 ghost use Rattle.stabs_tool.specs.Commands as spec;
 
-use crate::words::{Keyword, Operand, Want, order_of, text_of, word_of, wrong_front};
+use crate::limits::OBJECT_LIMIT;
+use crate::words::{
+    Keyword, Operand, Want, base_of, first_no_text, order_of, text_of, word_of, wrong_front,
+};
 use query_text::{Query, read_query};
 use st_base::{FILE_LIMIT, List, Memory, Order, Refused, Text};
 use stabs_asm::SOURCE_LIMIT;
@@ -13,13 +16,30 @@ use std::alloc::Global;
 #[derive(Debug, Drop)]
 pub enum Command {
     /// `query FILE QUERY...`
-    Query { file: Text, query: Query },
+    Query {
+        file: Text,
+        query: Query,
+    },
     /// `dump FILE`
-    Dump { file: Text },
+    Dump {
+        file: Text,
+    },
     /// `list FILE`
-    List { file: Text },
+    List {
+        file: Text,
+    },
     /// `as ORDER IN OUT`
-    As { order: Order, file: Text, out: Text },
+    As {
+        order: Order,
+        file: Text,
+        out: Text,
+    },
+    /// `link keep ADDR OUT OBJ...`
+    Link {
+        base: u32,
+        out: Text,
+        objects: List<Text>,
+    },
 }
 
 /// What the words of a line ask.
@@ -41,9 +61,11 @@ enum Form {
     List,
     /// `as ORDER IN OUT`
     As,
+    /// `link keep ADDR OUT OBJ`, and more words that are OBJ.
+    Link,
 }
 
-const FORMS: [Form; 4] = [Form::Query, Form::Dump, Form::List, Form::As];
+const FORMS: [Form; 5] = [Form::Query, Form::Dump, Form::List, Form::As, Form::Link];
 
 /// What the places of a form want.
 fn places_of(form: Form) -> &'static [Want]
@@ -58,6 +80,13 @@ fn places_of(form: Form) -> &'static [Want]
             Want::Order,
             Want::Any(Operand::File),
             Want::Any(Operand::Out),
+        ],
+        Form::Link => &[
+            Want::This(Keyword::Link),
+            Want::This(Keyword::Keep),
+            Want::Base,
+            Want::Any(Operand::Out),
+            Want::Any(Operand::File),
         ],
     }
 }
@@ -84,6 +113,38 @@ fn order_in(form: Form, words: &List<Text>) -> Order
         Some(order) => order,
         None => Order::Little,
     }
+}
+
+/// The address that ADDR spells.
+fn base_in(form: Form, words: &List<Text>) -> u32
+    ensures { result ≡ spec.base_in form words.now }
+{
+    match base_of(word_of(places_of(form), words.items(), Operand::Base)) {
+        Some(base) => base,
+        None => 0,
+    }
+}
+
+/// Appends copies of the words from a place on.
+fn put_words(alloc: Global, from: usize, words: &[Text], out: &mut List<Text>) -> Result<(), Memory>
+    requires { from ≤ length words.now }
+    ensures { OnOk result (out.new ≡ out.old ++ drop from words.now) }
+{
+    for at in from..words.len() {
+        out.push(words[at].copy(alloc)?)?;
+    }
+    Ok(())
+}
+
+/// Copies of the words that are OBJ.
+fn objects_in(alloc: Global, form: Form, words: &List<Text>) -> Result<List<Text>, Memory>
+    requires { length (spec.places_of form) ≤ length words.now }
+    ensures { IfOk result (λ objects. objects ≡ spec.objects_in form words.now) }
+{
+    let mut objects = List::new(alloc);
+    objects.push(file_of(alloc, form, words)?)?;
+    put_words(alloc, places_of(form).len(), words.items(), &mut objects)?;
+    Ok(objects)
 }
 
 /// The place of the first word too many, where nothing may follow the words of a form's places.
@@ -125,6 +186,17 @@ fn alone(form: Form, words: &List<Text>, command: Command) -> Asked
     }
 }
 
+/// The command, where each word behind those of the places is UTF-8.
+fn with_texts(form: Form, words: &List<Text>, command: Command) -> Asked
+    requires { length (spec.places_of form) ≤ length words.now }
+    ensures { result ≡ spec.with_texts form words.now command }
+{
+    match first_no_text(places_of(form).len(), words.items()) {
+        Some(at) => Asked::Wrong(at),
+        None => Asked::Command(command),
+    }
+}
+
 /// What words ask whose front is what the places of a form want.
 fn command_of(alloc: Global, form: Form, words: &List<Text>) -> Result<Asked, Memory>
     requires { length (spec.places_of form) ≤ length words.now }
@@ -145,6 +217,12 @@ fn command_of(alloc: Global, form: Form, words: &List<Text>) -> Result<Asked, Me
             let file = file_of(alloc, form, words)?;
             let out = out_of(alloc, form, words)?;
             Ok(alone(form, words, Command::As { order, file, out }))
+        }
+        Form::Link => {
+            let base = base_in(form, words);
+            let out = out_of(alloc, form, words)?;
+            let objects = objects_in(alloc, form, words)?;
+            Ok(with_texts(form, words, Command::Link { base, out, objects }))
         }
     }
 }
@@ -194,6 +272,11 @@ pub fn inputs_of(alloc: Global, command: &Command) -> Result<List<Text>, Memory>
             file,
             out: _,
         } => names.push(file.copy(alloc)?)?,
+        Command::Link {
+            base: _,
+            out: _,
+            objects,
+        } => put_words(alloc, 0, objects.items(), &mut names)?,
     }
     Ok(names)
 }
@@ -211,5 +294,10 @@ pub fn most_of(command: &Command) -> u64
             file: _,
             out: _,
         } => SOURCE_LIMIT,
+        Command::Link {
+            base: _,
+            out: _,
+            objects: _,
+        } => OBJECT_LIMIT,
     }
 }

@@ -3,8 +3,9 @@
 ghost use Rattle.std.specs.Prelude.{◌≡◌, ◌≤◌, ◌⊎◌, ℕ, nat_lt, length, IfOk};
 ghost use Rattle.std.specs.List.{sum_by};
 ghost use Rattle.outside.specs.Causes.{Contents};
-ghost use Rattle.stabs_tool.specs.Inputs.{loaded_inputs, HasCause, IsFailed};
+ghost use Rattle.stabs_tool.specs.Inputs.{few_inputs, loaded_inputs, HasCause, IsFailed};
 
+use crate::limits::MOST_NAMES;
 use outside::{Files, Loaded};
 use st_base::{List, Memory, Text};
 use std::alloc::Global;
@@ -26,6 +27,8 @@ pub enum Inputs {
     Fault(usize, Cause),
     /// The contents together have too many bytes.
     TooMuch,
+    /// The names are too many.
+    TooMany,
 }
 
 /// Whether the texts have more than `total` bytes.
@@ -43,8 +46,8 @@ fn passes(texts: &[Text], total: u64) -> bool
     false
 }
 
-/// Loads all names in order, to the first that fails: each for at most `most` bytes, and `total` bytes together.
-pub fn load_all<F: Files>(
+/// Loads names in order, to the first that fails: each for at most `most` bytes, and `total` bytes together.
+fn load_few<F: Files>(
     alloc: Global,
     names: &[Text],
     most: u64,
@@ -52,7 +55,7 @@ pub fn load_all<F: Files>(
     files: &mut F,
 ) -> Result<Inputs, Memory>
     ensures told { (m : Contents) → F.held files.old ≡ Some m
-        → IfOk result (λ inputs. IsFailed inputs ⊎ (inputs ≡ loaded_inputs m most total names.now)) }
+        → IfOk result (λ inputs. IsFailed inputs ⊎ (inputs ≡ few_inputs m most total names.now)) }
     ensures causes { IfOk result (HasCause (F.held files.old) (F.load_faults files.old) (F.load_faults files.new)
         (F.last_failed files.new) names.now) }
     ensures held { F.held files.new ≡ F.held files.old }
@@ -73,5 +76,31 @@ pub fn load_all<F: Files>(
         Ok(Inputs::TooMuch)
     } else {
         Ok(Inputs::All(texts))
+    }
+}
+
+/// Loads all names in order, to the first that fails, unless they are too many: each for at most `most` bytes, and `total` bytes
+/// together.
+pub fn load_all<F: Files>(
+    alloc: Global,
+    names: &[Text],
+    most: u64,
+    total: u64,
+    files: &mut F,
+) -> Result<Inputs, Memory>
+    ensures told { (m : Contents) → F.held files.old ≡ Some m
+        → IfOk result (λ inputs. IsFailed inputs ⊎ (inputs ≡ loaded_inputs m most total names.now)) }
+    ensures causes { IfOk result (HasCause (F.held files.old) (F.load_faults files.old) (F.load_faults files.new)
+        (F.last_failed files.new) names.now) }
+    ensures held { F.held files.new ≡ F.held files.old }
+    ensures stores { F.store_faults files.new ≡ F.store_faults files.old }
+    ensures later { F.load_faults files.old ≤ F.load_faults files.new }
+{
+    if names.len() as u64 > MOST_NAMES {
+        return Ok(Inputs::TooMany);
+    }
+    match load_few(alloc, names, most, total, files) {
+        Ok(inputs) => Ok(inputs),
+        Err(why) => Err(why),
     }
 }

@@ -9,6 +9,7 @@ ghost use Rattle.stabs_tool.specs.Replies.{IsOutcome, AreBytes};
 
 use crate::outcome::NO_MEMORY;
 use crate::top::run;
+use aout_link::one_link;
 use aout_object::object_laws;
 use outside::{SureFiles, SureSink};
 use query_text::{a_reply, one_reply};
@@ -23,6 +24,7 @@ pub fn one_outcome()
     object_laws();
     one_units();
     one_reply();
+    one_link();
 }
 
 /// Words have an outcome over all contents that are bytes, as those of files are.
@@ -32,6 +34,7 @@ pub fn an_outcome()
     object_laws();
     one_units();
     a_reply();
+    one_link();
 }
 
 /// A run over files and a sink that never fail: the outcome is carried out, unless out of memory.

@@ -12,6 +12,9 @@ mod decide;
 mod dump;
 mod inputs;
 mod laws;
+mod limits;
+mod linking;
+mod objects;
 mod outcome;
 mod reading;
 #[cfg(test)]

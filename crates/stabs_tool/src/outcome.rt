@@ -136,6 +136,40 @@ pub fn refused_or_limit(alloc: Global, name: &[u8], fault: Fault) -> Result<Outc
     }
 }
 
+/// `list N P W`.
+#[tactic(auto, unfolding(crate::specs::Outcomes::list_refused))]
+pub fn list_refused(alloc: Global, fault: Fault) -> Result<Outcome, Memory>
+    ensures { IfOk result (λ o. o ≡ spec.list_refused fault) }
+{
+    let mut text = Text::of(alloc, b"list ")?;
+    put_fault(fault, &mut text)?;
+    line(LIST_REFUSED, text)
+}
+
+/// `list N P W NAME`, the name that the fault is about.
+#[tactic(auto, unfolding(crate::specs::Outcomes::list_refused_at))]
+pub fn list_refused_at(alloc: Global, fault: Fault, name: &[u8]) -> Result<Outcome, Memory>
+    ensures { IfOk result (λ o. o ≡ spec.list_refused_at fault name.now) }
+{
+    let mut text = Text::of(alloc, b"list ")?;
+    put_fault(fault, &mut text)?;
+    text.push(b' ')?;
+    show(&mut text, name)?;
+    line(LIST_REFUSED, text)
+}
+
+/// These bytes are stored under a name, and a text is printed.
+pub fn kept_with(alloc: Global, name: &[u8], bytes: Text, text: Text) -> Result<Outcome, Memory>
+    ensures { IfOk result (λ o. o ≡ spec.kept_with name.now bytes text) }
+{
+    let name = Text::of(alloc, name)?;
+    Ok(Outcome {
+        status: DONE,
+        text,
+        stored: Some(Content { name, bytes }),
+    })
+}
+
 /// These bytes are stored under a name, and nothing is printed.
 pub fn kept(alloc: Global, name: &[u8], bytes: Text) -> Result<Outcome, Memory>
     ensures { IfOk result (λ o. o ≡ spec.kept name.now bytes) }

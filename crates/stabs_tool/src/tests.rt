@@ -8,6 +8,8 @@
 //!   each `KIND:NAME`, `KIND@VALUE:NAME` or `KIND@VALUE.DESC:NAME`, the numbers in hexadecimal digits. It goes the same round.
 //! - `files N`, `sink N`: in the next run the call of this number fails, counted from 0.
 //! - `run WORDS`: the program over all files so far, with these words.
+//! - `many N NAME WORDS`: the program with these words, and the name so many times behind them.
+//! - `keep NAME FROM`: the file NAME has from here on what FROM holds behind the run.
 //! - `carry STATUS NAME BYTES TEXT`: an outcome that stores these bytes under the name and prints the text and a line feed.
 //! - `little LINES`, `big LINES`: the source in.s of these lines, which `|` parts, is assembled in this order to out.o without a word, and out.o
 //!   is dumped; it is held from here on. `has LINE`: a line of what was printed last. `again ORDER`: the list of out.o is assembled in
@@ -277,6 +279,18 @@ impl Table {
         Ok(())
     }
 
+    /// The program with these words, and a name so many times behind them.
+    fn many(&mut self, line: &[u8]) -> Result<(), Fail> {
+        let (times, rest) = word(line);
+        let (name, words) = word(rest);
+        let mut all = Text::of(self.alloc, words)?;
+        for _ in 0..number_of(10, times) {
+            all.push(b' ')?;
+            all.extend(name)?;
+        }
+        self.run(all.bytes())
+    }
+
     fn carry(&mut self, line: &[u8]) -> Result<(), Fail> {
         self.make_files()?;
         let mut out = self.make_sink()?;
@@ -456,6 +470,12 @@ impl Table {
             b"files" => self.failing_files.push(number_of(10, rest))?,
             b"sink" => self.failing_puts.push(number_of(10, rest))?,
             b"run" => self.run(rest)?,
+            b"many" => self.many(rest)?,
+            b"keep" => {
+                let (name, from) = word(rest);
+                let bytes = self.found(from)?;
+                self.hold(name, bytes)?;
+            }
             b"carry" => self.carry(rest)?,
             b">" => {
                 self.expected.extend(rest)?;

@@ -1,8 +1,9 @@
 //! What the places of a command's words want, and where words are not what is wanted.
 
-ghost use Rattle.std.specs.Prelude.{◌≡◌, IfOk, length, take};
+ghost use Rattle.std.specs.Prelude.{◌≡◌, ◌≤◌, IfOk, length, take, drop};
 ghost use Rattle.stabs_tool.specs.Words as spec;
 
+use query_text::address_of;
 use st_base::{Memory, Order, Text};
 use std::alloc::Global;
 use std::str::from_utf8;
@@ -14,6 +15,8 @@ pub enum Keyword {
     Dump,
     List,
     As,
+    Link,
+    Keep,
 }
 
 /// What a word of a command is to the command.
@@ -25,6 +28,8 @@ pub enum Operand {
     Out,
     /// ORDER, the byte order of what is stored.
     Order,
+    /// ADDR, the address at which an image begins.
+    Base,
 }
 
 /// What a place of a command's words wants. Wherever it stands, a word that is not UTF-8 is not wanted.
@@ -36,6 +41,8 @@ pub enum Want {
     Any(Operand),
     /// A byte order: `little` or `big`.
     Order,
+    /// An address that is a multiple of 4: `0x` and 1 to 8 hexadecimal digits of either case.
+    Base,
 }
 
 /// The bytes of a keyword. Takes no memory.
@@ -47,6 +54,8 @@ fn keyword_text(keyword: Keyword) -> &'static [u8]
         Keyword::Dump => b"dump",
         Keyword::List => b"list",
         Keyword::As => b"as",
+        Keyword::Link => b"link",
+        Keyword::Keep => b"keep",
     }
 }
 
@@ -69,6 +78,17 @@ pub fn order_of(word: &[u8]) -> Option<Order>
     }
 }
 
+/// The address that a word spells, where it is a multiple of 4. Takes no memory.
+pub fn base_of(word: &[u8]) -> Option<u32>
+    ensures { result ≡ spec.base_of word.now }
+{
+    match address_of(word) {
+        Some(address) if address % 4 == 0 => Some(address),
+        Some(_) => None,
+        None => None,
+    }
+}
+
 fn is_wanted(want: Want, word: &Text) -> bool
     ensures { result ≡ spec.is_wanted want word.now }
 {
@@ -76,6 +96,7 @@ fn is_wanted(want: Want, word: &Text) -> bool
         Want::This(keyword) => word.bytes() == keyword_text(keyword),
         Want::Any(_) => true,
         Want::Order => order_of(word.bytes()).is_some(),
+        Want::Base => base_of(word.bytes()).is_some(),
     }
 }
 
@@ -112,6 +133,19 @@ pub fn wrong_front(places: &[Want], words: &[Text]) -> Option<usize>
     wrong_place(places, &words[..front])
 }
 
+/// The first word from a place on that is not UTF-8. Takes no memory.
+pub fn first_no_text(from: usize, words: &[Text]) -> Option<usize>
+    requires { from ≤ length words.now }
+    ensures { result ≡ spec.first_no_text from (drop from words.now) }
+{
+    for at in from..words.len() {
+        if !is_text(&words[at]) {
+            return Some(at);
+        }
+    }
+    None
+}
+
 fn is_operand(operand: Operand, want: Want) -> bool
     ensures { result ≡ spec.is_operand operand want }
 {
@@ -119,6 +153,7 @@ fn is_operand(operand: Operand, want: Want) -> bool
         Want::This(_) => false,
         Want::Any(other) => operand == other,
         Want::Order => operand == Operand::Order,
+        Want::Base => operand == Operand::Base,
     }
 }
 

@@ -1,7 +1,7 @@
 use Rattle.std.proofs.Common.{rules}
 use Rattle.stabs_tool.specs.declared.command.Command.TheVariants as commands
 use Rattle.stabs_tool.specs.Replies.{RepliesOnObject, Dumps}
-use Rattle.stabs_tool.proofs.Decisions.{by_command}
+use Rattle.stabs_tool.proofs.Decisions.{by_command, by_link}
 use Rattle.stabs_tool.proofs.answer.answer.Goals as goal
 
 pub returns-in-Query : goal.returns-in-Query
@@ -13,3 +13,7 @@ pub returns-in-Dump : goal.returns-in-Dump
 returns-in-Dump c =
     by_command c.args.command.now (commands.Dump c.bytes-in-Dump.result.now) c.args.texts.now c.bytes-in-Dump.result.now c.first-in-Dump.result.now
     Dumps c.dump_file.result c.dump_file.ensures c.first-in-Dump.ensures (search rules) (λ o said. said)
+
+pub returns-in-Link : goal.returns-in-Link
+returns-in-Link c =
+    by_link c.args.command.now c.in-Link.base c.bytes-in-Link.result.now c.items.result.now c.args.texts.now c.link_files.result c.link_files.ensures (search rules)

@@ -1,4 +1,4 @@
-use Rattle.std.proofs.Common.{arith, ap, ◌∙◌, ◌≡◌, ◌+◌, ◌*◌, drop, take, List, ℕ}
+use Rattle.std.proofs.Common.{arith, ap, ◌∙◌, ◌≡◌, ◌+◌, ◌*◌, drop, take, ℕ}
 use Rattle.stabs_tool.proofs.DumpLemmas.{rows_step}
 use Rattle.stabs_tool.proofs.dump.put_rows.Goals as goal
 

@@ -1,7 +1,3 @@
-use Rattle.std.proofs.Common.{◌≡◌, ◌∙◌, subst, ap, ℕ, ◌+◌, length, List, sym}
-use Rattle.nlist_codec.specs.declared.named.Named.{Named}
-use Rattle.st_base.specs.declared.fault.Fault.{Fault}
-use Rattle.stab_units.specs.Worlds.{UnitsFault}
 use Rattle.stabs_tool.proofs.Decisions.{world_fault}
 use Rattle.stabs_tool.proofs.reading.read_counted.Goals as goal
 
