@@ -1,4 +1,4 @@
-/// The rows of the test; `tests.rt` says how its lines are read. They are worked by hand.
+/// The rows of the test; `tests.rt` says how its lines are read. They are worked by hand, long texts by a model of the rules.
 pub const ROWS: &[u8] = b"\
 # two sources of a compiler that include the same headers
 order little
