@@ -49,7 +49,7 @@ all_stabs : List Row → Bool
 all_stabs [] = true
 all_stabs (row ∷ rows) = is_stab row.code && all_stabs rows
 
-both_true : (a b : Bool) → (a && b) ≡ true → (a ≡ true) × (b ≡ true)
+pub both_true : (a b : Bool) → (a && b) ≡ true → (a ≡ true) × (b ≡ true)
 both_true true true is = (refl, refl)
 both_true true false is = absurd cc
 both_true false b is = absurd cc
@@ -67,7 +67,7 @@ unfolding all_stabs
 table_stabs = refl
 
 -- and carries no symbol
-no_carries : (k : ℕ) → is_stab k ≡ false → carries_symbol k ≡ false
+pub no_carries : (k : ℕ) → is_stab k ≡ false → carries_symbol k ≡ false
 unfolding carries_symbol
 no_carries k none = ap (λ row. option_map_or (λ row. row.carries) row false) (no_row k table table_stabs none)
 
@@ -135,7 +135,7 @@ never_plain true going other is = absurd cc
 never_plain false going other is = absurd cc
 
 -- an entry that is no stab begins none
-no_plain : (k : ℕ) → is_stab k ≡ false → is_plain k ≡ false
+pub no_plain : (k : ℕ) → is_stab k ≡ false → is_plain k ≡ false
 no_plain k none = rw none refl
 
 module _ (h : Named → Named) (like : (e : Named) → IsAlike e (h e)) where

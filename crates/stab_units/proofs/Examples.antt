@@ -1,6 +1,6 @@
 -- Worked values, by hand after "The stabs debug format".
 use Rattle.std.proofs.Common.{◌≡◌, ◌≢◌, inl, inr, arith, get_or, ℕ, Some, None, true, false, List, [], ◌∷◌, refl, ap}
-use Rattle.std.specs.Prelude.{map, ◌++◌}
+use Rattle.std.specs.Prelude.{map, ◌++◌, ◌+◌, ◌==◌}
 use Rattle.st_base.specs.declared.fault.TheConstants.{NO_UNIT, BRACKETS, EXCLUDED}
 use Rattle.st_base.specs.Faults.{fault_at}
 use Rattle.stab_codes.specs.Table.{carries_symbol}
@@ -15,6 +15,7 @@ use Rattle.stab_units.specs.Outlines.{units_of, outline_tell}
 use Rattle.stab_units.specs.Units.{stabs_from}
 use Rattle.stab_units.specs.Forgetting.{forgotten}
 use Rattle.stab_units.specs.Joining.{AreAlike}
+use Rattle.stab_units.specs.Changing.{Change, range_in, changed, LocalsGo}
 
 -- an entry by its kind, its name and its value
 abbrev en : ℕ → List ℕ → ℕ → Named
@@ -125,3 +126,42 @@ moved = (inl (record { stab = refl; kind = refl; name = refl }), (inr (record { 
 -- a stab with another name is another stab
 renamed : AreAlike (en N_SO (102 ∷ []) 0 ∷ []) (en N_SO (103 ∷ []) 0 ∷ []) → ⊥
 renamed alike = elim alike.0 [ inl stabs ↦ let same : 102 ≡ 103 = ap (λ name. get_or name 0 0) stabs.name in omega (arith, same) | inr none ↦ let first = none.first in absurd cc ]
+
+-- `p` and `q` are headers of `a`, each with a symbol; the range of `p` is taken out
+abbrev first_goes : Change
+first_goes = record { kept = λ place. place == 1; value = λ place. place + 7 }
+
+taken_out : changed first_goes (en N_SO (97 ∷ []) 0 ∷ en N_BINCL (112 ∷ []) 0 ∷ en N_LSYM (49 ∷ []) 3 ∷ en N_EINCL [] 0 ∷ en N_BINCL (113 ∷ []) 0 ∷ en N_LSYM (50 ∷ []) 4 ∷ en N_EINCL [] 0 ∷ [])
+    ≡ en N_SO (97 ∷ []) 0 ∷ en N_EXCL (112 ∷ []) 7 ∷ en N_BINCL (113 ∷ []) 8 ∷ en N_LSYM (50 ∷ []) 4 ∷ en N_EINCL [] 0 ∷ []
+taken_out = refl
+
+-- `q` inside of `p` keeps its entries where those of `p` go; what is no stab (5) stays
+nested : changed first_goes (en N_SO (97 ∷ []) 0 ∷ en N_BINCL (112 ∷ []) 0 ∷ en N_LSYM (49 ∷ []) 3 ∷ en N_BINCL (113 ∷ []) 0 ∷ en N_LSYM (50 ∷ []) 4 ∷ en N_EINCL [] 0 ∷ en N_LSYM (51 ∷ []) 5 ∷ en 5 (120 ∷ []) 9 ∷ en N_EINCL [] 0 ∷ en N_SLINE [] 6 ∷ [])
+    ≡ en N_SO (97 ∷ []) 0 ∷ en N_EXCL (112 ∷ []) 7 ∷ en N_BINCL (113 ∷ []) 8 ∷ en N_LSYM (50 ∷ []) 4 ∷ en N_EINCL [] 0 ∷ en 5 (120 ∷ []) 9 ∷ en N_SLINE [] 6 ∷ []
+nested = refl
+
+-- an excluded header stays one, and is the first here; the range of `p`, the second, stays
+still_excluded : changed first_goes (en N_SO (97 ∷ []) 0 ∷ en N_EXCL (113 ∷ []) 2 ∷ en N_BINCL (112 ∷ []) 0 ∷ en N_EINCL [] 0 ∷ [])
+    ≡ en N_SO (97 ∷ []) 0 ∷ en N_EXCL (113 ∷ []) 7 ∷ en N_BINCL (112 ∷ []) 8 ∷ en N_EINCL [] 0 ∷ []
+still_excluded = refl
+
+-- behind the N_BINCL of `q` inside of `p` the range is that of `q`, the second header; behind its N_EINCL it is that of `p`
+in_inner : range_in (en N_BINCL (113 ∷ []) 0 ∷ en N_BINCL (112 ∷ []) 0 ∷ en N_SO (97 ∷ []) 0 ∷ []) 0 ≡ Some 1
+in_inner = refl
+
+back_in_outer : range_in (en N_EINCL [] 0 ∷ en N_BINCL (113 ∷ []) 0 ∷ en N_BINCL (112 ∷ []) 0 ∷ en N_SO (97 ∷ []) 0 ∷ []) 0 ≡ Some 0
+back_in_outer = refl
+
+-- headers are counted through all units: that of the second unit has the place 1
+in_second_unit : range_in (en N_BINCL (113 ∷ []) 0 ∷ en N_SO (98 ∷ []) 0 ∷ en N_EINCL [] 0 ∷ en N_BINCL (112 ∷ []) 0 ∷ en N_SO (97 ∷ []) 0 ∷ []) 0 ≡ Some 1
+in_second_unit = refl
+
+-- of the range of `p` an N_LSYM goes
+local_goes : let entries : List Named = en N_SO (97 ∷ []) 0 ∷ en N_BINCL (112 ∷ []) 0 ∷ en N_LSYM (49 ∷ []) 3 ∷ en N_EINCL [] 0 ∷ [] in LocalsGo first_goes entries 0 (units_of 20 entries)
+unfolding carries_symbol
+local_goes = ((λ gone. refl, tt), tt)
+
+-- and if there is a bracket in it, that would go too, so the list is none of those that the law is about
+bracket_goes : let entries : List Named = en N_SO (97 ∷ []) 0 ∷ en N_BINCL (112 ∷ []) 0 ∷ en N_LBRAC [] 3 ∷ en N_EINCL [] 0 ∷ [] in LocalsGo first_goes entries 0 (units_of 20 entries) → ⊥
+unfolding carries_symbol
+bracket_goes locals = let kind : N_LBRAC ≡ N_LSYM = locals.0.0 refl in omega (arith, kind)

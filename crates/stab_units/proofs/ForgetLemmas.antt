@@ -110,7 +110,7 @@ module _ {E : Type 0} (h : E → E) where
 -- ---- steps of the definitions
 
 -- the step to the file of an entry looks at what is before it by its values alone
-same_file : (s : Nesting) (n : ℕ) (number other : ℕ) (f g : ℕ → ℕ) → number ≡ other → ((m : ℕ) → f m ≡ g m) → file_step s n number f ≡ file_step s n other g
+pub same_file : (s : Nesting) (n : ℕ) (number other : ℕ) (f g : ℕ → ℕ) → number ≡ other → ((m : ℕ) → f m ≡ g m) → file_step s n number f ≡ file_step s n other g
 same_file Opens zero number other f g is same = is
 same_file Opens (suc n) number other f g is same = same n
 same_file Closes n number other f g is same = same (suc n)

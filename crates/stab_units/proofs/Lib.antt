@@ -15,3 +15,10 @@ pub mod ForgetLemmas
 pub mod UntoldLemmas
 pub mod ReadableLemmas
 pub mod AlikeLemmas
+pub mod KindLemmas
+pub mod ChangeSteps
+pub mod ChangeWalks
+pub mod ChangeFaults
+pub mod ChangeStabs
+pub mod ChangeMarks
+pub mod ChangeSpans

@@ -84,7 +84,7 @@ ended : (carries backslash : Bool) (e f : Named) → carries ≡ false → goes 
 ended carries backslash e f none = rw none refl
 
 -- nothing goes on with the string of an N_SO
-source_ends : (e f : Named) (back : List Named) → (e.kind == N_SO) ≡ true → continued (e ∷ back) f ≡ false
+pub source_ends : (e f : Named) (back : List Named) → (e.kind == N_SO) ≡ true → continued (e ∷ back) f ≡ false
 source_ends e f back is = ended (carries_symbol e.kind) (ends_in 92 e.name) e f (source_carries e is)
 
 none_spelled : (string : List ℕ) → spells false string ≡ true → ⊥
@@ -163,7 +163,7 @@ start_source true m is = refl
 start_source false m is = absurd cc
 
 -- what is behind a directory mark names a source
-directory_next : (source nameless ends_so names : Bool) → cond source (cond nameless Stop (cond (ends_so && names) Directory Start)) NoMark ≡ Directory → names ≡ true
+pub directory_next : (source nameless ends_so names : Bool) → cond source (cond nameless Stop (cond (ends_so && names) Directory Start)) NoMark ≡ Directory → names ≡ true
 directory_next true true ends_so names is = absurd cc
 directory_next true false true true is = refl
 directory_next true false true false is = absurd cc
@@ -171,14 +171,14 @@ directory_next true false false names is = absurd cc
 directory_next false nameless ends_so names is = absurd cc
 
 -- an N_SO with a name ends no unit
-no_stop : (source nameless directory : Bool) → cond source (cond nameless Stop (cond directory Directory Start)) NoMark ≡ Stop → not nameless ≡ true → ⊥
+pub no_stop : (source nameless directory : Bool) → cond source (cond nameless Stop (cond directory Directory Start)) NoMark ≡ Stop → not nameless ≡ true → ⊥
 no_stop true true directory is named = absurd cc
 no_stop true false true is named = absurd cc
 no_stop true false false is named = absurd cc
 no_stop false nameless directory is named = absurd cc
 
 -- and is a mark
-no_mark : (source nameless directory : Bool) → cond source (cond nameless Stop (cond directory Directory Start)) NoMark ≡ NoMark → source ≡ true → ⊥
+pub no_mark : (source nameless directory : Bool) → cond source (cond nameless Stop (cond directory Directory Start)) NoMark ≡ NoMark → source ≡ true → ⊥
 no_mark true true directory is source = absurd cc
 no_mark true false true is source = absurd cc
 no_mark true false false is source = absurd cc
@@ -222,7 +222,7 @@ drop_suc [] (suc p) e es is = absurd cc
 drop_suc (x ∷ all) zero e es is = cc
 drop_suc (x ∷ all) (suc p) e es is = drop_suc all p e es is
 
-drop_next : (all : List Named) (p : ℕ) (e : Named) (es : List Named) → drop p all ≡ (e ∷ es) → drop (p + 1) all ≡ es
+pub drop_next : (all : List Named) (p : ℕ) (e : Named) (es : List Named) → drop p all ≡ (e ∷ es) → drop (p + 1) all ≡ es
 drop_next all p e es is = ap (λ n. drop n all) (add-one p) ∙ drop_suc all p e es is
 
 module _ (text_end : ℕ) (all : List Named) where

@@ -26,18 +26,18 @@ abbrev pub Untold : {E : Type 0} → Telling E → List E → List E → Type 0
 Untold tell back [] = ⊤
 Untold tell back (e ∷ es) = (tell back e es ≡ None) × Untold tell (e ∷ back) es
 
-none_at : (o : Option ℕ) (p : ℕ) (m : Option Fault) → told_at o p m ≡ None → (o ≡ None) × (m ≡ None)
+pub none_at : (o : Option ℕ) (p : ℕ) (m : Option Fault) → told_at o p m ≡ None → (o ≡ None) × (m ≡ None)
 none_at None p m none = (refl, none)
 none_at (Some n) p m none = absurd cc
 
 module _ {E : Type 0} (tell : Telling E) where
   -- nothing is told first where nothing is told
-  untold-first : (back : List E) (p : ℕ) (es : List E) → Untold tell back es → first_told tell back p es ≡ None
+  pub untold-first : (back : List E) (p : ℕ) (es : List E) → Untold tell back es → first_told tell back p es ≡ None
   untold-first back p [] untold = refl
   untold-first back p (e ∷ es) untold = rw untold.0 (untold-first (e ∷ back) (p + 1) es untold.1)
 
   -- and nothing is told where nothing is told first
-  first-untold : (back : List E) (p : ℕ) (es : List E) → first_told tell back p es ≡ None → Untold tell back es
+  pub first-untold : (back : List E) (p : ℕ) (es : List E) → first_told tell back p es ≡ None → Untold tell back es
   first-untold back p [] none = tt
   first-untold back p (e ∷ es) none =
       let both = none_at (tell back e es) p (first_told tell (e ∷ back) (p + 1) es) none in
@@ -59,13 +59,13 @@ some_or_other true n m none = absurd cc
 some_or_other false n m none = absurd cc
 
 -- neither of two is told
-neither : (a b : Option ℕ) → smaller a b ≡ None → (a ≡ None) × (b ≡ None)
+pub neither : (a b : Option ℕ) → smaller a b ≡ None → (a ≡ None) × (b ≡ None)
 neither None None none = (refl, refl)
 neither None (Some b) none = absurd cc
 neither (Some a) None none = absurd cc
 neither (Some a) (Some b) none = absurd (some_or_other (ltb b a) b a none)
 
-both_none : (a b : Option ℕ) → a ≡ None → b ≡ None → smaller a b ≡ None
+pub both_none : (a b : Option ℕ) → a ≡ None → b ≡ None → smaller a b ≡ None
 both_none a b first second = rw (first, second) refl
 
 -- no fault of any sort is told at an entry
@@ -86,7 +86,7 @@ told-quiet marks back e es none =
     record { unit = all.0; headers = nests.0; blocks = nests.1; unbroken = runs.0; short = runs.1 }
 
 -- and all together are none where each sort is
-quiet-told : (marks : Marks) (back : List Named) (e : Named) (es : List Named) → IsQuiet marks back e es → outline_tell marks back e es ≡ None
+pub quiet-told : (marks : Marks) (back : List Named) (e : Named) (es : List Named) → IsQuiet marks back e es → outline_tell marks back e es ≡ None
 quiet-told marks back e es quiet = both_none _ _ quiet.unit (both_none _ _ (both_none _ _ quiet.headers quiet.blocks) (both_none _ _ quiet.unbroken quiet.short))
 
 -- ---- marks that match

@@ -11,3 +11,4 @@ pub mod Worlds
 pub mod Walking
 pub mod Forgetting
 pub mod Joining
+pub mod Changing

@@ -1,18 +1,20 @@
 //! What the definitions of outlines and units say of any entries.
 
-ghost use Rattle.std.specs.Prelude.{◌≡◌, ◌≤◌, ◌⊎◌, ◌++◌, ℕ, List, [], None, Option, MatchOption, length, map};
+ghost use Rattle.std.specs.Prelude.{◌≡◌, ◌≤◌, ◌⊎◌, ◌++◌, ℕ, zero, List, [], None, Option, MatchOption, length, map};
 ghost use Rattle.st_base.specs.declared.fault.Fault.{Fault};
 ghost use Rattle.nlist_codec.specs.declared.named.Named.{Named};
 ghost use Rattle.stab_units.specs.declared.outline_types.Marks.{Marks};
+ghost use Rattle.stab_units.specs.declared.outline_types.Marks.TheVariants.{Image};
 ghost use Rattle.stab_units.specs.declared.outline_types.UnitSpan.{UnitSpan};
 ghost use Rattle.stab_units.specs.declared.unit.Unit.{Unit};
 ghost use Rattle.stab_units.specs.Nests.{closing, in_blocks, in_headers};
 ghost use Rattle.stab_units.specs.Counts.{ClosesAt, NeverCloses};
-ghost use Rattle.stab_units.specs.Outlines.{OutlineFault};
+ghost use Rattle.stab_units.specs.Outlines.{OutlineFault, units_of};
 ghost use Rattle.stab_units.specs.Units.{IsUnitOf, UnitFault};
 ghost use Rattle.stab_units.specs.Worlds.{AreUnits, UnitsFault};
 ghost use Rattle.stab_units.specs.Forgetting.{forgotten};
 ghost use Rattle.stab_units.specs.Joining.{AreAlike};
+ghost use Rattle.stab_units.specs.Changing.{Change, changed, LocalsGo, AreSpansChanged};
 
 use stab_grammar::one_symbol;
 
@@ -72,4 +74,13 @@ pub fn joined_law()
     ensures joined { (end other text_end : ℕ) (es fs : List Named) (us vs : List Unit) → AreUnits end es us → AreUnits other fs vs → (units : List Unit) × AreUnits text_end (es ++ fs) units }
     ensures none { (text_end : ℕ) → AreUnits text_end [] [] }
     ensures alike { (end text_end : ℕ) (es fs : List Named) (us : List Unit) → AreUnits end es us → AreAlike es fs → (units : List Unit) × AreUnits text_end fs units }
+{}
+
+/// A linker that takes header ranges out of a list of entries leaves an outline, as long as of the stabs of units only N_LSYM stabs go:
+/// the changed list is that of an image without a fault, its units are those of the list, in order, with changed marks of headers, and
+/// their stabs that are left are read as they were. The changed list is no longer than the list.
+pub fn changed_law()
+    ensures outline { (marks : Marks) (c : Change) (text_end : ℕ) (entries : List Named) → OutlineFault marks entries None → LocalsGo c entries 0 (units_of text_end entries) → OutlineFault Image (changed c entries) None }
+    ensures spans { (marks : Marks) (c : Change) (text_end : ℕ) (entries : List Named) → OutlineFault marks entries None → LocalsGo c entries 0 (units_of text_end entries) → AreSpansChanged c entries 0 (units_of text_end entries) (units_of text_end (changed c entries)) }
+    ensures no_more { (c : Change) (entries : List Named) → length (changed c entries) ≤ length entries }
 {}

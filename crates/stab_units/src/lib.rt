@@ -22,7 +22,8 @@ mod stack;
 mod unit;
 
 pub use laws::{
-    closing_law, few_units, header_values_law, joined_law, one_outline, one_unit, one_units,
+    changed_law, closing_law, few_units, header_values_law, joined_law, one_outline, one_unit,
+    one_units,
 };
 pub use outline_types::{HeaderMark, Marks, UnitSpan};
 pub use outlines::outline;
