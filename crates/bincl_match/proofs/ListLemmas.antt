@@ -1,7 +1,9 @@
--- Lists by places: fronts and ends, maps, and the items of a list from a place on.
-use Rattle.std.proofs.Common.{◌≡◌, ℕ, zero, suc, ◌+◌, ◌<◌, ◌≤◌, ◌⊎◌, ◌&&◌, Bool, true, false, List, [], ◌∷◌, ◌++◌, length, get_or, drop, map, Option, Some, None, refl, sym, ap, ◌∙◌, arith, inl, inr}
+-- Lists by places: fronts and ends, maps, the items of a list from a place on, and lists of what each place has.
+use Rattle.std.proofs.Common.{◌≡◌, ℕ, zero, suc, ◌+◌, ◌<◌, ◌≤◌, ◌⊎◌, ◌&&◌, Bool, true, false, List, [], ◌∷◌, ◌++◌, length, get_or, drop, map, Option, Some, None, refl, sym, ap, ◌∙◌, arith, inl, inr, subst, below_more}
 use Rattle.std.specs.Prelude.{slice_get}
 use Rattle.std.proofs.lemmas.List.{drop_more}
+use Rattle.std.proofs.Math.Seq.{get_or-append_seam}
+use Rattle.std.proofs.Math.ListN.{get_or-append, length-append}
 
 -- ---- tests
 
@@ -72,3 +74,53 @@ drop_past [] zero past = refl
 drop_past [] (suc at) past = refl
 drop_past (x ∷ xs) zero past = absurd (omega arith)
 drop_past (x ∷ xs) (suc at) past = drop_past xs at (omega arith)
+
+-- ---- what each place has
+
+-- one more item
+pub each_more : {A : Type 0} (none : A) (P : ℕ → A → Type 0) (n : ℕ) (xs : List A) (x : A) → length xs ≡ n → ((i : ℕ) → i < n → P i (get_or xs i none)) → P n x → (i : ℕ) → i < n + 1 → P i (get_or (xs ++ x ∷ []) i none)
+each_more none P n xs x count old here =
+    below_more (λ i. P i (get_or (xs ++ x ∷ []) i none)) n
+    (λ i lt. subst (P i) (sym (get_or-append xs (x ∷ []) none i (omega (arith, count)))) (old i lt))
+    (let e : x ≡ get_or (xs ++ x ∷ []) n none = sym (ap (λ (z : ℕ). get_or (xs ++ x ∷ []) z none) (sym count) ∙ get_or-append_seam xs x [] none) in
+    subst (P n) e here)
+
+-- a list of n items that are as P says
+abbrev pub Listed : {A : Type 0} → A → (ℕ → A → Type 0) → ℕ → Type 0
+Listed {A} none P n = (xs : List A) × (length xs ≡ n) × ((i : ℕ) → i < n → P i (get_or xs i none))
+
+-- one more item
+listed_more : {A : Type 0} (none : A) (P : ℕ → A → Type 0) (n : ℕ) → Listed none P n → (x : A) × P n x → Listed none P (suc n)
+listed_more none P n (xs, count, each) (x, is) =
+    (xs ++ x ∷ [], length-append xs (x ∷ []) ∙ omega (arith, count), λ i lt. each_more none P n xs x count each is i (omega arith))
+
+-- where each of the first n places has a value, there is a list of them
+pub listed : {A : Type 0} (none : A) (P : ℕ → A → Type 0) (n : ℕ) → ((i : ℕ) → i < n → (x : A) × P i x) → Listed none P n
+listed none P zero each = ([], refl, λ i lt. absurd (omega arith))
+listed none P (suc n) each = listed_more none P n (listed none P n (λ i lt. each i (omega arith))) (each n (omega arith))
+
+-- ---- the first place at which a test passes
+
+-- a test passes at this place, and before it at none
+abbrev pub PassesFirst : (ℕ → Bool) → ℕ → Type 0
+PassesFirst test k = (test k ≡ true) × ((j : ℕ) → j < k → test j ≡ false)
+
+-- below n there is such a place, or the test passes nowhere
+abbrev Below : (ℕ → Bool) → ℕ → Type 0
+Below test n = ((k : ℕ) × (k < n) × PassesFirst test k) ⊎ ((j : ℕ) → j < n → test j ≡ false)
+
+-- in each case one of the two
+first_below : (test : ℕ → Bool) (n : ℕ) → Below test n
+first_below test zero = inr (λ j lt. absurd (omega arith))
+first_below test (suc n) = by_case (first_below test n) (which (test n)) where
+  by_case : Below test n → (test n ≡ true) ⊎ (test n ≡ false) → Below test (suc n)
+  by_case (inl (k, lt, first)) w = inl (k, omega arith, first)
+  by_case (inr never) (inl is) = inl (n, omega arith, (is, never))
+  by_case (inr never) (inr not) = inr (λ j lt. below_more (λ j. test j ≡ false) n never not j (omega arith))
+
+-- where a test passes, it passes at a first place
+pub first_place : (test : ℕ → Bool) (i : ℕ) → test i ≡ true → (k : ℕ) × (k ≤ i) × PassesFirst test k
+first_place test i is = by_case (first_below test (i + 1)) where
+  by_case : Below test (i + 1) → (k : ℕ) × (k ≤ i) × PassesFirst test k
+  by_case (inl (k, lt, first)) = (k, omega arith, first)
+  by_case (inr never) = not_both (test i) is (never i (omega arith))

@@ -15,9 +15,9 @@ use Rattle.bincl_match.specs.Ranges.{is_repeated}
 abbrev pub has_instance : {S : Type 0} → HashSet (Bor (List ℕ) × ℕ) S → List ℕ → ℕ → Bool
 has_instance taken name v = contains_by (λ k. pointwise nat_eq name k.0.now && nat_eq v k.1) taken
 
--- a map from names with sums has this number of tries
-abbrev pub tries_of : {S : Type 0} → HashMap (Bor (List ℕ) × ℕ) ℕ S → List ℕ → ℕ → Option ℕ
-tries_of tried name sum = get_by (λ k. pointwise nat_eq name k.0.now && nat_eq sum k.1) tried
+-- a map from names with sums as a function
+abbrev pub look_sum : {S : Type 0} → HashMap (Bor (List ℕ) × ℕ) ℕ S → List ℕ → ℕ → Option ℕ
+look_sum m name sum = get_by (λ k. pointwise nat_eq name k.0.now && nat_eq sum k.1) m
 
 -- the first n numbers from the sum on, modulo 2 ^ 32, are taken
 abbrev pub AreTried : (ℕ → Bool) → ℕ → ℕ → Type 0

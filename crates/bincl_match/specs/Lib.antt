@@ -2,6 +2,9 @@ pub mod Sums
 pub mod Ranges
 pub mod Lawful
 pub mod Instances
+pub mod Matching
+pub mod Merging
 pub mod Owning
 pub mod Crowding
+pub mod Refining
 pub mod Reading

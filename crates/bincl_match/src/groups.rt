@@ -80,8 +80,8 @@ fn first_seen<'a>(
     Ok(at)
 }
 
-// For each key the place of the first key that equals it.
-fn firsts(alloc: Global, keys: &[List<usize>]) -> Result<List<u32>, Memory>
+/// For each key the place of the first key that equals it.
+pub(crate) fn firsts(alloc: Global, keys: &[List<usize>]) -> Result<List<u32>, Memory>
     requires { length keys.now < 2 ^ 32 }
     ensures { IfOk result (λ out. AreFirsts keys.now out) }
 {

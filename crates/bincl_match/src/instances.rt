@@ -4,7 +4,7 @@ ghost use Rattle.std.specs.Prelude.{◌≡◌, ◌≢◌, ℕ, List, ◌+◌, �
 ghost use Rattle.std.specs.HashSet.{hash_set_len};
 ghost use Rattle.bincl_match.specs.declared.range.RangeOf.{RangeOf as SomeRange};
 ghost use Rattle.bincl_match.specs.Instances.{AreLow, IsAlone, IsInstance};
-ghost use Rattle.bincl_match.specs.Crowding.{AreTried, has_instance, tries_of};
+ghost use Rattle.bincl_match.specs.Crowding.{AreTried, has_instance, look_sum};
 
 use crate::range::{Grouping, RangeOf};
 use st_base::{List, Memory};
@@ -13,7 +13,7 @@ use std::collections::{HashMap, HashSet};
 
 // From where on numbers behind the sum are to be tried: all before are taken.
 fn first_try<'a>(tried: &HashMap<(&'a [u8], u32), u32>, name: &'a [u8], sum: u32) -> u32
-    ensures { result ≡ unwrap_or (tries_of tried.now name.now sum) 0 }
+    ensures { result ≡ unwrap_or (look_sum tried.now name.now sum) 0 }
 {
     match tried.get(&(name, sum)) {
         Some(tries) => *tries,
@@ -38,8 +38,12 @@ fn free<'a>(taken: &HashSet<(&'a [u8], u32)>, name: &'a [u8], sum: u32, first: u
     }
 }
 
-// The instance of each range's kept range.
-fn instances(alloc: Global, ranges: &[RangeOf], kept: &[u32]) -> Result<List<u32>, Memory>
+/// The instance of each range's kept range.
+pub(crate) fn instances(
+    alloc: Global,
+    ranges: &[RangeOf],
+    kept: &[u32],
+) -> Result<List<u32>, Memory>
     requires same { length kept.now ≡ length ranges.now }
     requires low { AreLow kept.now }
     requires short { length ranges.now < 2 ^ 32 }

@@ -1,10 +1,11 @@
 //! Header ranges of an entry list, and which of them are kept. A compiler writes the types of a header file into each unit that includes
 //! it, between N_BINCL and N_EINCL; a linker that keeps the range of one unit for those of the others needs to know what a range is
-//! wherever it stands. It stands on the units of `stab_units` and on the shapes, files and spellings of `stab_grammar`.
+//! wherever it stands, and which ranges are one. It stands on the units of `stab_units` and on the shapes, files and spellings of
+//! `stab_grammar`.
 //!
 //! The law that the layers above use: the entries of an object have exactly one list of ranges, in which a unit and a file open one
 //! header at most, and a candidate is the only range of its unit with its name and shape; and a list of ranges has exactly one grouping
-//! in which every range is kept.
+//! by classes, and one in which every range is kept, both of which are mergings.
 //!
 //! ```text
 //! "a.c"   N_SO        unit 0
@@ -23,15 +24,20 @@ mod groups;
 mod instances;
 mod kinds;
 mod laws;
+mod matching;
 mod nest;
 mod owning;
+mod prepare;
+mod prepared;
 mod range;
 mod reading;
+mod refine;
 mod stack;
 mod sums;
 mod unit_ranges;
 
 pub use instances::{alone, instance_of, kept_of};
-pub use laws::{one_alone, one_ranges};
+pub use laws::{matching_laws, merging_laws, one_alone, one_classes, one_ranges};
+pub use matching::classes;
 pub use range::{Grouping, RangeOf};
 pub use reading::ranges;

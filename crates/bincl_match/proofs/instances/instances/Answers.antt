@@ -1,6 +1,6 @@
 use Rattle.std.proofs.Common.{◌≡◌, ℕ, List, ◌+◌, ◌%◌, ◌^◌, refl, ap, get_or, arith}
 use Rattle.std.specs.HashSet.{hash_set_len}
-use Rattle.bincl_match.specs.Crowding.{has_instance, tries_of}
+use Rattle.bincl_match.specs.Crowding.{has_instance, look_sum}
 use Rattle.bincl_match.proofs.FreeLemmas.{first_free, tried_by, tried_more}
 use Rattle.bincl_match.proofs.InstanceLemmas.{one_more, other_more, own_step}
 use Rattle.bincl_match.proofs.instances.instances.Goals as goal
@@ -15,7 +15,7 @@ loop-i-preserved-then-first-i c =
 -- what was tried for the name and the sum is taken
 pub free-tries-requires-clause-tried : goal.free-tries-requires-clause-tried
 free-tries-requires-clause-tried c =
-    tried_by (λ n v. has_instance c.loop-i.taken n v) (λ n s. tries_of c.loop-i.tried n s) c.bytes-name.result.now c.index-ranges-i.result.sum _ c.first_try-first_try.result
+    tried_by (λ n v. has_instance c.loop-i.taken n v) (λ n s. look_sum c.loop-i.tried n s) c.bytes-name.result.now c.index-ranges-i.result.sum _ c.first_try-first_try.result
     c.loop-i.invariant.knows refl c.first_try-first_try.ensures
 
 -- a kept range
@@ -34,6 +34,6 @@ loop-i-preserved c =
     (first_free (found key) x.sum d w refl c.free-tries.ensures.free c.free-tries.ensures.tried) news (one_more _ _ _ c.in_ok-insert.ensures.len) c.loop-i.invariant.so_far in
     record {
       so_far = rw c.in_ok-push-2.ensures.ok h;
-      knows = tried_more found new (λ n s. tries_of c.loop-i.tried n s) (λ n s. tries_of c.insert-in-loop-i.new.self n s) key x.sum d w c.loop-i.invariant.knows c.free-tries.ensures.tried news
+      knows = tried_more found new (λ n s. look_sum c.loop-i.tried n s) (λ n s. look_sum c.insert-in-loop-i.new.self n s) key x.sum d w c.loop-i.invariant.knows c.free-tries.ensures.tried news
           (λ n s. c.in_ok-insert-2.ensures.updates.0 (record { ref_ptr = (0, 0); now = n }, s));
     }
