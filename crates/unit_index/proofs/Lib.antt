@@ -1,0 +1,13 @@
+pub mod Examples
+pub mod Tests
+pub mod SeenLemmas
+pub mod WalkLemmas
+pub mod StepLemmas
+pub mod FewLemmas
+pub mod PlaceLemmas
+pub mod IndexLaws
+pub mod FileLemmas
+pub mod FillLemmas
+pub mod ExpandLemmas
+pub mod OneLaws
+pub mod UnexcludedLaws
