@@ -1,0 +1,13 @@
+pub mod Examples
+pub mod ListLemmas
+pub mod OwnerLemmas
+pub mod FrontLemmas
+pub mod StabLemmas
+pub mod SymbolLemmas
+pub mod ExternalLemmas
+pub mod RangeLemmas
+pub mod GoneLemmas
+pub mod RowLemmas
+pub mod WorldLemmas
+pub mod LawLemmas
+pub mod WalkLemmas
