@@ -35,7 +35,8 @@ fi
 # ---- the edge of the program: what its tests in memory cannot see
 ./stabs >/dev/null 2>&1
 ends . 2 'usage: word 0'
-ends . 2 'usage: word 0' ask a.o
+ends . 2 'usage: word 0' aks a.o
+ends . 2 'usage: word 2' ask a.o
 ends . 2 'usage: word 3' query a.o tag 01 list
 ends . 5 'absent missing.o' query missing.o tag 0 list
 ends . 6 'read fault docs' query docs tag 0 list
@@ -104,6 +105,11 @@ for order in little big; do
     ends "$folder" 0 '0 00001000 00001008 /w/a.c
 1 00001008 0000100c b.c' query image units
     ends "$folder" 0 '/w/a.c 5 00001004' query image line 0x1006
+    ends "$folder" 0 'ranges 4 kept 2 entries 30' link merge 0x1000 merged one.o two.o
+    ends "$folder" 0 'units 2 headers 4 excluded 2 symbols 11' check merged
+    ends "$folder" 0 "$("$stabs" query "$folder/image" tag 1 list)" query merged tag 1 list
+    ends "$folder" 0 'ranges 4 kept 2 entries 30
+/w/a.c 5 00000004' ask one.o two.o -- line 0x6
 done
 ends "$folder" 4 'list 92 0 21 _f' link keep 0x1000 image one.o
 ends "$folder" 5 'absent none.o' link keep 0x1000 image one.o none.o

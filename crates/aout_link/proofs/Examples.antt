@@ -11,7 +11,6 @@ use Rattle.aout_link.specs.Moves.{padded, moved, all_moves}
 use Rattle.aout_link.specs.Tables.{common_sizes, names_table}
 use Rattle.aout_link.specs.Placing.{placed_all, texts, datas, bss_of}
 use Rattle.aout_link.specs.Refusals.{list_fault, fault_in}
-use Rattle.aout_link.specs.Headers.{numbered}
 
 -- an entry without a description
 abbrev entry : ℕ → ℕ → List ℕ → Named
@@ -173,9 +172,3 @@ stab-fault = refl
 -- an object of the other order, before one of another machine
 other-order : list_fault 4096 (caller ∷ absolute 255 0 0 ∷ []) ≡ Some (fault_at 90 1)
 other-order = refl
-
--- ---- headers
-
-two-headers : numbered (7 ∷ 9 ∷ []) (entry 0x82 0 (codes "a.h") ∷ entry 0x80 5 [] ∷ entry 0x82 0 (codes "b.h") ∷ entry 0x82 1 (codes "c.h") ∷ [])
-    ≡ entry 0x82 7 (codes "a.h") ∷ entry 0x80 5 [] ∷ entry 0x82 9 (codes "b.h") ∷ entry 0x82 1 (codes "c.h") ∷ []
-two-headers = refl

@@ -11,10 +11,10 @@ pub mod RelocLemmas
 pub mod PlacedLemmas
 pub mod FirstLemmas
 pub mod AcceptedLemmas
-pub mod HeaderLemmas
 pub mod MakingLemmas
 pub mod GroupLemmas
 pub mod ExactLemmas
 pub mod UnitLemmas
-pub mod LinkingLemmas
+pub mod MergedLemmas
+pub mod WorldLemmas
 pub mod OneLinkLemmas

@@ -1,12 +1,12 @@
 -- Worked values of linking, by hand: two objects in little order with four bytes of text and one unit each, linked from address 4096 on.
--- Both units include a header `h` without symbols, so that the sums of both ranges are 0, and their instances 0 and 1.
+-- Both units include a header `h` without symbols, so that the sums of both ranges are 0. Where both are kept their instances are 0 and 1.
 use Rattle.std.proofs.Common.{◌≡◌, ◌≢◌, ℕ, zero, suc, ◌+◌, ◌<◌, ◌%◌, ◌^◌, List, [], ◌∷◌, true, false, refl, subst, arith, lit<, get_or, ap}
 use Rattle.std.specs.Prelude.{Some, None, Option, codes, slice_get, slice_index}
 use Rattle.st_base.specs.declared.order.Order.TheVariants.{Little}
 use Rattle.st_base.specs.declared.fault.Fault.{Fault}
 use Rattle.stab_codes.specs.Segments.{segment_of}
 use Rattle.stab_codes.specs.Table.{carries_symbol}
-use Rattle.stab_codes.specs.declared.code.TheConstants.{N_SO, N_BINCL, N_EINCL}
+use Rattle.stab_codes.specs.declared.code.TheConstants.{N_SO, N_BINCL, N_EINCL, N_EXCL}
 use Rattle.nlist_codec.specs.declared.named.Named.{Named}
 use Rattle.stab_units.specs.declared.outline_types.Marks.TheVariants.{Object}
 use Rattle.stab_units.specs.declared.outline_types.UnitSpan.{UnitSpan}
@@ -19,14 +19,15 @@ use Rattle.stab_units.proofs.FirstLemmas.{first_of_all}
 use Rattle.bincl_match.specs.declared.range.RangeOf.{RangeOf}
 use Rattle.bincl_match.specs.declared.range.Grouping.{Grouping}
 use Rattle.bincl_match.specs.Ranges.{AreRanges}
-use Rattle.bincl_match.specs.Instances.{IsTaken, IsInstance}
+use Rattle.bincl_match.specs.Instances.{IsAlone, IsTaken, IsInstance}
+use Rattle.header_merge.specs.Merged.{merged}
 use Rattle.aout_link.specs.Sources.{Source, HasUnits}
 use Rattle.aout_link.specs.Moves.{all_moves}
 use Rattle.aout_link.specs.Tables.{names_table}
 use Rattle.aout_link.specs.Placing.{placed_all}
 use Rattle.aout_link.specs.Refusals.{list_fault}
-use Rattle.aout_link.specs.Headers.{numbered}
-use Rattle.aout_link.specs.Linking.{IsGrouped}
+use Rattle.aout_link.specs.Linking.{IsGroupingOf, kept_from}
+use Rattle.aout_link.specs.declared.linking.Mode.TheVariants.{Keep}
 
 -- ---- the objects
 
@@ -157,16 +158,34 @@ own zero lt = first_instance
 own (suc zero) lt = second_instance
 own (suc (suc i)) lt = absurd (omega arith)
 
-grouped : IsGrouped 4104 placed grouping
-grouped = record { ranges = ranges; are = are_ranges; alone = record { count = (refl, refl); kept = kept_own; own = own; apart = apart } }
+-- both ranges are kept
+all_kept : IsGroupingOf Keep ranges grouping
+all_kept = record { count = (refl, refl); kept = kept_own; own = own; apart = apart }
 
--- ---- the image
+both_count : kept_from 0 grouping.kept ≡ 2
+both_count = refl
 
--- the headers have taken the instances, in order
-image_entries : numbered grouping.instance placed
+-- ---- one for both
+
+-- the first is kept for the second
+abbrev shared_grouping : Grouping
+shared_grouping = record { kept = 0 ∷ 0 ∷ []; instance = 0 ∷ 0 ∷ [] }
+
+one_count : kept_from 0 shared_grouping.kept ≡ 1
+one_count = refl
+
+-- ---- the images
+
+-- each header has its instance
+kept_entries : merged grouping placed
     ≡ stab N_SO 4096 (codes "a.c") ∷ stab N_BINCL 0 (codes "h") ∷ stab N_EINCL 0 [] ∷ stab N_SO 4100 (codes "b.c") ∷ stab N_BINCL 1 (codes "h") ∷ stab N_EINCL 0 [] ∷ []
-image_entries = refl
+kept_entries = refl
+
+-- the second is an N_EXCL with the instance of the first, and its N_EINCL is gone
+shared_entries : merged shared_grouping placed
+    ≡ stab N_SO 4096 (codes "a.c") ∷ stab N_BINCL 0 (codes "h") ∷ stab N_EINCL 0 [] ∷ stab N_SO 4100 (codes "b.c") ∷ stab N_EXCL 0 (codes "h") ∷ []
+shared_entries = refl
 
 -- a header that kept its value would not be that of an image
-kept_value : numbered grouping.instance placed ≢ placed
+kept_value : merged grouping placed ≢ placed
 kept_value e = let first : 0 ≡ 7 = ap (λ (es : List Named). (get_or es 1 (stab 0 0 [])).value) e in omega (arith, first)

@@ -151,7 +151,7 @@ abbrev HasKnownKind : List ℕ × Known → Type 0
 HasKnownKind e = is_accepted_kind e.1.kind ≡ true
 
 -- what holds of all items of two lists holds of both together
-all_append : {A : Type 0} (P : A → Type 0) (xs ys : List A) → AllByRecursion P xs → AllByRecursion P ys → AllByRecursion P (xs ++ ys)
+pub all_append : {A : Type 0} (P : A → Type 0) (xs ys : List A) → AllByRecursion P xs → AllByRecursion P ys → AllByRecursion P (xs ++ ys)
 all_append P [] ys a b = b
 all_append P (x ∷ xs) ys a b = (a.0, all_append P xs ys a.1 b)
 

@@ -6,7 +6,7 @@ pub mod Refusals
 pub mod Answering
 pub mod First
 pub mod Accepted
-pub mod Headers
 pub mod Making
 pub mod Groups
 pub mod Linking
+pub mod Planning

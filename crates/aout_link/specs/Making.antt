@@ -11,7 +11,6 @@ use Rattle.aout_object.specs.Objects.{Contents, file_of}
 use Rattle.aout_object.specs.Making.{HasWholeName, made, size_check}
 use Rattle.aout_link.specs.Sources.{HasAcceptedKind}
 use Rattle.aout_link.specs.declared.placed.Placed.{Placed}
-use Rattle.aout_link.specs.Headers.{numbered}
 
 -- what is placed can be written, but for its size: no name holds a zero byte, kinds are accepted, the end of bss is an address, and
 -- the machine word tells the byte order
@@ -41,15 +40,3 @@ image_of p = made (parts_of p) p.named
 -- its file passes the size limit
 abbrev pub size_fault : Placed → Option Fault
 size_fault p = first_fault (size_check (length (file_of (image_of p))) ∷ [])
-
--- what is placed, its headers having taken these values in order
-abbrev pub with_headers : List ℕ → Placed → Placed
-with_headers values p = record {
-  order = p.order;
-  machine = p.machine;
-  entry = p.entry;
-  text = p.text;
-  data_part = p.data_part;
-  bss = p.bss;
-  named = numbered values p.named;
-}

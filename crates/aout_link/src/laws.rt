@@ -1,11 +1,8 @@
-ghost use Rattle.std.specs.Prelude.{◌≡◌, ◌↔◌, ◌⊎◌, ℕ, Bool, List, [], map, All, None, Some};
+ghost use Rattle.std.specs.Prelude.{◌≡◌, ◌↔◌, ◌⊎◌, ℕ, ◌<◌, ◌^◌, Bool, List, [], length, All, None, Some};
 ghost use Rattle.st_base.specs.declared.fault.Fault.{Fault as FaultValue};
 ghost use Rattle.st_base.specs.declared.fault.Refused.TheVariants as refused;
 ghost use Rattle.nlist_codec.specs.declared.named.Named.{Named as NamedValue};
 ghost use Rattle.reloc.specs.declared.reloc.Reloc.{Reloc as RelocValue};
-ghost use Rattle.stab_units.specs.declared.unit.Unit.{Unit as UnitValue};
-ghost use Rattle.stab_units.specs.Forgetting.{forgotten};
-ghost use Rattle.stab_units.specs.Worlds.{AreUnits};
 ghost use Rattle.aout_link.specs.Sources.{Source as SourceValue, IsLawful, HasUnits};
 ghost use Rattle.aout_link.specs.declared.moves.Moves.{Moves as MovesValue};
 ghost use Rattle.aout_link.specs.declared.definitions.Known.{Known as KnownValue};
@@ -17,14 +14,14 @@ ghost use Rattle.aout_link.specs.Refusals.{list_fault, first_that, twice_fault, 
 ghost use Rattle.aout_link.specs.Accepted.{Accepted, HasExactCommons};
 ghost use Rattle.aout_link.specs.First as first;
 ghost use Rattle.aout_link.specs.First.{HasFirst, stages, stage_fault, difference, object_twice, object_undefined, object_relocs, reloc_fault};
-ghost use Rattle.aout_link.specs.declared.placed.Placed.{Placed as PlacedValue};
-ghost use Rattle.aout_link.specs.Making.{CanBeMade, size_fault, with_headers};
-ghost use Rattle.aout_link.specs.Headers.{numbered};
-ghost use Rattle.aout_link.specs.Linking.{HaveOneWorld, IsLinked, RefusesLink};
+ghost use Rattle.aout_link.specs.Tables.{entries_of};
+ghost use Rattle.aout_link.specs.Linking.{IsLinked, RefusesLink};
 ghost use Rattle.aout_link.specs.declared.linking.Image.{Image as ImageValue};
+ghost use Rattle.aout_link.specs.declared.linking.Mode.{Mode};
 
-use bincl_match::{one_alone, one_ranges};
-use stab_units::{header_values_law, joined_law, one_units};
+use bincl_match::{merging_laws, one_alone, one_classes, one_ranges};
+use header_merge::merged_world;
+use stab_units::{joined_law, one_units};
 
 /// A list of objects has no fault exactly where it is accepted: where each condition holds of each object, entry and relocation, told
 /// by what stands before it. The places of commons of such a list are sums that no remainder cuts.
@@ -64,30 +61,24 @@ pub fn group_laws()
     ensures sizes { (os : List SourceValue) → padded (totals_of os).text ≡ (totals_of os).text }
 {}
 
-/// The values of N_BINCL are all that numbering headers changes: what could be made into an object still can, and takes as many bytes,
-/// and the entries have the same units and the same world.
-pub fn header_laws()
-    ensures only_values { (values : List ℕ) (ns : List NamedValue) → map forgotten (numbered values ns) ≡ map forgotten ns }
-    ensures still_can { (values : List ℕ) (p : PlacedValue) → CanBeMade p → CanBeMade (with_headers values p) }
-    ensures size { (values : List ℕ) (p : PlacedValue) → size_fault (with_headers values p) ≡ size_fault p }
-    ensures units { (values : List ℕ) (ns : List NamedValue) (end : ℕ) (units : List UnitValue) → AreUnits end ns units → AreUnits end (numbered values ns) units }
-    ensures world { (values : List ℕ) (ns : List NamedValue) → HaveOneWorld ns (numbered values ns) }
-{
-    header_values_law();
-}
-
-/// A list of objects that have units either has exactly one image, for which one number of steps is taken, or has exactly one fault that
-/// it is refused for. Out of memory is a refusal of any list.
+/// A list of objects that have units, with fewer than 2^32 entries together, either has exactly one image, for which one number of steps
+/// is taken, or has exactly one fault that it is refused for. Out of memory is a refusal of any list.
 pub fn one_link()
-    ensures some { (base : ℕ) (os : List SourceValue) (old : ℕ) → All IsLawful os → All HasUnits os → ((new : ℕ) × (image : ImageValue) × IsLinked base os old new image) ⊎ ((f : FaultValue) × RefusesLink base os (refused.At f)) }
-    ensures one_image { (base : ℕ) (os : List SourceValue) (old new other : ℕ) (image second : ImageValue) → IsLinked base os old new image → IsLinked base os old other second → image ≡ second }
-    ensures one_count { (base : ℕ) (os : List SourceValue) (old new other : ℕ) (image second : ImageValue) → IsLinked base os old new image → IsLinked base os old other second → new ≡ other }
-    ensures one_fault { (base : ℕ) (os : List SourceValue) (f g : FaultValue) → RefusesLink base os (refused.At f) → RefusesLink base os (refused.At g) → f ≡ g }
-    ensures not_both { (base : ℕ) (os : List SourceValue) (old new : ℕ) (image : ImageValue) (f : FaultValue) → IsLinked base os old new image → RefusesLink base os (refused.At f) → ⊥ }
+    ensures some { (mode : Mode) (base : ℕ) (os : List SourceValue) (old : ℕ) → All IsLawful os → All HasUnits os → length (entries_of os) < 2 ^ 32
+        → ((new : ℕ) × (image : ImageValue) × IsLinked mode base os old new image) ⊎ ((f : FaultValue) × RefusesLink mode base os (refused.At f)) }
+    ensures one_image { (mode : Mode) (base : ℕ) (os : List SourceValue) (old new other : ℕ) (image second : ImageValue)
+        → IsLinked mode base os old new image → IsLinked mode base os old other second → image ≡ second }
+    ensures one_count { (mode : Mode) (base : ℕ) (os : List SourceValue) (old new other : ℕ) (image second : ImageValue)
+        → IsLinked mode base os old new image → IsLinked mode base os old other second → new ≡ other }
+    ensures one_fault { (mode : Mode) (base : ℕ) (os : List SourceValue) (f g : FaultValue) → RefusesLink mode base os (refused.At f) → RefusesLink mode base os (refused.At g) → f ≡ g }
+    ensures not_both { (mode : Mode) (base : ℕ) (os : List SourceValue) (old new : ℕ) (image : ImageValue) (f : FaultValue)
+        → IsLinked mode base os old new image → RefusesLink mode base os (refused.At f) → ⊥ }
 {
-    header_values_law();
     joined_law();
     one_units();
     one_ranges();
     one_alone();
+    one_classes();
+    merging_laws();
+    merged_world();
 }

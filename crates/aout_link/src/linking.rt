@@ -1,25 +1,40 @@
-//! Linking without merging, pass by pass: objects are placed; the ranges of the placed entries are found, and an instance for each;
-//! each N_BINCL takes the instance of its range as value; and the object is made.
+//! Linking, pass by pass: objects are placed; the header ranges of the placed entries are found, and grouped as the mode says; the entries
+//! of the image are made of the placed ones, a range staying where it is kept, and leaving an N_EXCL for the range that is kept for it
+//! where it is not; and the object is made.
+//!
+//! ```text
+//! a.c        N_SO                 a.c        N_SO
+//!  x.h       N_BINCL               x.h       N_BINCL, the instance of range 0
+//!   t1       N_LSYM                 t1       N_LSYM
+//!            N_EINCL                         N_EINCL
+//! b.c        N_SO                 b.c        N_SO
+//!  x.h       N_BINCL               x.h       N_EXCL, the instance of range 0
+//!   t1       N_LSYM
+//!            N_EINCL
+//! ```
 
-ghost use Rattle.std.specs.Prelude.{◌≡◌, ◌+◌, ◌<◌, ◌^◌, ℕ, List, length, All, Err, IfOk};
+ghost use Rattle.std.specs.Prelude.{◌≡◌, ◌+◌, ◌<◌, ◌^◌, ℕ, List, length, All, Err, IfOk, Some};
 ghost use Rattle.st_base.specs.declared.fault.Fault.{Fault};
 ghost use Rattle.st_base.specs.declared.fault.Refused.{Refused};
 ghost use Rattle.stab_units.specs.Worlds.{AreUnits, strings_in};
 ghost use Rattle.stab_units.specs.declared.unit.Unit.{Unit};
+ghost use Rattle.bincl_match.specs.Lawful.{IsLawful};
 ghost use Rattle.aout_link.specs.Sources.{HasUnits};
 ghost use Rattle.aout_link.specs.Refusals.{list_fault, PlacesTo};
 ghost use Rattle.aout_link.specs.Making.{CanBeMade};
-ghost use Rattle.aout_link.specs.Linking.{IsGrouped, Makes, Numbers, Links};
+ghost use Rattle.header_merge.specs.Merged.{merged};
+ghost use Rattle.aout_link.specs.Linking.{KeepsWorld, IsGroupingOf, IsPlanned, Links, image_end, image_placed, kept_from};
+ghost use Rattle.aout_link.specs.Planning.{IsGrouped, Makes};
 
 use crate::checked::Checked;
-use crate::headers::number_headers;
 use crate::image::make_image;
 use crate::placed::{Placed, place_objects};
 use aout_object::Object;
-use bincl_match::{Grouping, alone, ranges};
+use bincl_match::{Grouping, RangeOf, alone, classes, merging_laws, one_ranges, ranges};
+use header_merge::{merge_headers, merged_world};
 use nlist_codec::Named;
-use st_base::{FILE_LIMIT, Fault, List, Refused, Steps, TOO_LARGE};
-use stab_units::{header_values_law, joined_law, one_units};
+use st_base::{List, Memory, Refused, Steps};
+use stab_units::{joined_law, one_units};
 use std::alloc::Global;
 use std::sync::ledger::Ledger;
 
@@ -28,6 +43,9 @@ use std::sync::ledger::Ledger;
 pub enum Mode {
     /// Every range, each with an instance of its own.
     Keep,
+    /// The first of each class: of the ranges of several units that have one name and the same types, each type number naming the same
+    /// type in its own unit.
+    Merge,
 }
 
 /// An image, and how many header ranges it has.
@@ -40,6 +58,15 @@ pub struct Image {
     /// Those of them that are kept.
     pub kept: u32,
 }
+
+// What is placed of objects, and which of its header ranges are kept.
+#[derive(Debug, Drop)]
+struct Plan {
+    placed: Placed,
+    grouping: Grouping,
+}
+
+// ---- what is placed, and its ranges
 
 // What holds of each object, which a proof sees at a call.
 fn have_units(objects: &[Checked])
@@ -64,23 +91,47 @@ fn place(alloc: Global, objects: &[Checked], base: u32) -> Result<Placed, Refuse
     }
 }
 
-// The instances of the ranges of entries that have units.
+// The grouping of ranges that the mode makes.
+fn group_ranges(alloc: Global, found: &List<RangeOf>, mode: Mode) -> Result<Grouping, Memory>
+    requires lawful { IsLawful found.now }
+    requires few { length found.now < 2 ^ 32 }
+    ensures grouped { IfOk result (IsGroupingOf mode found.now) }
+    ensures count { IfOk result (λ grouping. length grouping.kept ≡ length found.now) }
+{
+    match mode {
+        Mode::Keep => match alone(alloc, found) {
+            Ok(grouping) => Ok(grouping),
+            Err(why) => Err(why),
+        },
+        Mode::Merge => match classes(alloc, found) {
+            Ok(grouping) => Ok(grouping),
+            Err(why) => Err(why),
+        },
+    }
+}
+
+// The grouping of the ranges of entries that have units.
 fn group<L: Ledger>(
     alloc: Global,
     entries: &List<Named>,
     end: u32,
+    mode: Mode,
     steps: &mut Steps<L>,
 ) -> Result<Grouping, Refused>
     requires few { length entries.now < 2 ^ 32 }
     requires units { (units : List Unit) × AreUnits end entries.now units }
-    ensures grouped { IfOk result (IsGrouped end entries.now) }
-    ensures few { IfOk result (λ grouping. length grouping.instance < 2 ^ 32) }
+    ensures grouped { IfOk result (IsGrouped mode end entries.now) }
+    ensures few { IfOk result (λ grouping. length grouping.kept < 2 ^ 32) }
+    ensures world { IfOk result (λ grouping. KeepsWorld end entries.now (merged grouping entries.now)) }
     ensures refused { (f : Fault) → result ≡ Err (Refused.At f) → ⊥ }
     ensures ticks { IfOk result (λ grouping. steps.new ≡ steps.old + strings_in end entries.now) }
 {
     one_units();
+    one_ranges();
+    merging_laws();
+    merged_world();
     match ranges(alloc, entries, end, steps) {
-        Ok(found) => match alone(alloc, &found) {
+        Ok(found) => match group_ranges(alloc, &found, mode) {
             Ok(grouping) => Ok(grouping),
             Err(_) => Err(Refused::Memory),
         },
@@ -88,78 +139,111 @@ fn group<L: Ledger>(
     }
 }
 
-// The image of what is placed, whose headers take these values in order.
-fn make_numbered(alloc: Global, mut placed: Placed, instances: &[u32]) -> Result<Image, Refused>
-    requires can { CanBeMade placed }
-    requires few { length instances.now < 2 ^ 32 }
-    ensures { Makes placed instances.now result }
+// What is placed of objects, and the grouping of its ranges.
+fn make_plan<L: Ledger>(
+    alloc: Global,
+    objects: &[Checked],
+    base: u32,
+    mode: Mode,
+    steps: &mut Steps<L>,
+) -> Result<Plan, Refused>
+    ensures planned { IfOk result (λ plan. IsPlanned mode base objects.now plan.placed plan.grouping) }
+    ensures can { IfOk result (λ plan. CanBeMade plan.placed) }
+    ensures few { IfOk result (λ plan. length plan.grouping.kept < 2 ^ 32) }
+    ensures world { IfOk result (λ plan. KeepsWorld (image_end plan.placed) plan.placed.named (merged plan.grouping plan.placed.named)) }
+    ensures refused { (f : Fault) → result ≡ Err (Refused.At f) → list_fault base objects.now ≡ Some f }
+    ensures ticks { IfOk result (λ plan. steps.new ≡ steps.old + strings_in (image_end plan.placed) plan.placed.named) }
 {
-    header_values_law();
-    number_headers(alloc, &mut placed.named, instances);
-    let count = instances.len() as u32;
-    match make_image(alloc, placed) {
+    let placed = match place(alloc, objects, base) {
+        Ok(placed) => placed,
+        Err(why) => return Err(why),
+    };
+    // ranges are numbered by words
+    if placed.named.len() > u32::MAX as usize {
+        return Err(Refused::Memory);
+    }
+    let end = placed.entry + placed.text.bytes().len() as u32;
+    match group(alloc, &placed.named, end, mode, steps) {
+        Ok(grouping) => Ok(Plan { placed, grouping }),
+        Err(why) => Err(why),
+    }
+}
+
+// ---- the image
+
+// How many ranges are kept for themselves.
+fn count_kept(kept: &[u32]) -> u32
+    requires { length kept.now < 2 ^ 32 }
+    ensures { result ≡ kept_from 0 kept.now }
+{
+    let mut count = 0u32;
+    for (place, first) in kept.iter().enumerate() {
+        if *first as usize == place {
+            count += 1;
+        }
+    }
+    count
+}
+
+// What is placed, with the entries of the image.
+fn merge(alloc: Global, placed: Placed, grouping: &Grouping) -> Result<Placed, Memory>
+    ensures { IfOk result (λ image. image ≡ image_placed grouping.now placed) }
+{
+    let Placed {
+        order,
+        machine,
+        entry,
+        text,
+        data_part,
+        bss,
+        named,
+    } = placed;
+    let named = merge_headers(alloc, named, grouping)?;
+    Ok(Placed {
+        order,
+        machine,
+        entry,
+        text,
+        data_part,
+        bss,
+        named,
+    })
+}
+
+// The image of what is placed, whose ranges are grouped so.
+fn make_merged(alloc: Global, placed: Placed, grouping: &Grouping) -> Result<Image, Refused>
+    requires can { CanBeMade placed }
+    requires few { length grouping.now.kept < 2 ^ 32 }
+    ensures { Makes placed grouping.now result }
+{
+    let Ok(merged) = merge(alloc, placed, grouping) else {
+        return Err(Refused::Memory);
+    };
+    match make_image(alloc, merged) {
         Ok(object) => Ok(Image {
             object,
-            ranges: count,
-            kept: count,
+            ranges: grouping.kept.len() as u32,
+            kept: count_kept(grouping.kept.items()),
         }),
         Err(why) => Err(why),
     }
 }
 
-// The image of what is placed, whose entries have units.
-fn number<L: Ledger>(alloc: Global, placed: Placed, steps: &mut Steps<L>) -> Result<Image, Refused>
-    requires can { CanBeMade placed }
-    requires units { (end : ℕ) → (units : List Unit) × AreUnits end placed.named units }
-    ensures { Numbers placed steps.old steps.new result }
-{
-    // an entry takes twelve bytes of a file, so that no file has so many
-    if placed.named.len() as u64 > FILE_LIMIT {
-        return Err(Refused::At(Fault::at(TOO_LARGE, FILE_LIMIT)));
-    }
-    let end = placed.entry + placed.text.bytes().len() as u32;
-    let grouping = match group(alloc, &placed.named, end, steps) {
-        Ok(grouping) => grouping,
-        Err(why) => return Err(why),
-    };
-    match make_numbered(alloc, placed, grouping.instance.items()) {
-        Ok(image) => Ok(image),
-        Err(why) => Err(why),
-    }
-}
-
-// The image of objects, in which all ranges are kept.
-fn link_keep<L: Ledger>(
-    alloc: Global,
-    objects: &[Checked],
-    base: u32,
-    steps: &mut Steps<L>,
-) -> Result<Image, Refused>
-    ensures { Links base objects.now steps.old steps.new result }
-{
-    match place(alloc, objects, base) {
-        Ok(placed) => match number(alloc, placed, steps) {
-            Ok(image) => Ok(image),
-            Err(why) => Err(why),
-        },
-        Err(why) => Err(why),
-    }
-}
-
 /// The image of objects: their text from the address `base` on, then data, bss and commons, as `place_objects` places them, without
-/// relocations; and their entries in order, each N_BINCL with the instance of its header range as value.
+/// relocations; and the entries that `merge_headers` makes of the placed ones.
 ///
-/// The ranges are those of the placed entries, counted from 0 in their order. Each is kept, and its instance is the first number from
-/// its sum on, modulo 2^32, that no earlier range of its name has. The units of the image's entries are those of the placed entries,
-/// and so are its externals.
+/// The ranges are those of the placed entries, counted from 0 in their order, and `mode` says which of them are kept: `alone` or
+/// `classes` groups them. The instance of a kept range is the first number from its sum on, modulo 2^32, that no earlier kept range
+/// of its name has.
 ///
 /// Refused with the first fault of the list, as by `place_objects`: `EMPTY`, `ORDER_MIX`, `MACHINE_MIX`, `TWICE`, `UNDEFINED`,
 /// `TOO_LARGE` with place 4,294,967,295, and relocation by relocation `OUTSIDE`, `SYMBOL` and `OVERFLOW`. An accepted list is refused with
 /// `TOO_LARGE` and place 134,217,728 where the image's file would have more bytes. Stabs give no refusal, since the objects have units.
 ///
 /// The sources are read twice in all: once by `Checked::of`, and here once more for the ranges, which takes a step for each string that
-/// is parsed. Takes memory for the placed segments and entries, for the ranges, for one unit at a time, and for the image; out of
-/// memory is an answer of its own. After a.out(5) and "The stabs debug format".
+/// is parsed. Takes memory for the placed segments and entries, for the ranges, for one unit at a time, and for the entries of the image
+/// and the image; out of memory is an answer of its own, and that of 2^32 placed entries or more. After a.out(5) and "The stabs debug
+/// format".
 pub fn link<L: Ledger>(
     alloc: Global,
     objects: &List<Checked>,
@@ -167,12 +251,14 @@ pub fn link<L: Ledger>(
     mode: Mode,
     steps: &mut Steps<L>,
 ) -> Result<Image, Refused>
-    ensures { Links base objects.now steps.old steps.new result }
+    ensures { Links mode base objects.now steps.old steps.new result }
 {
-    match mode {
-        Mode::Keep => match link_keep(alloc, objects.items(), base, steps) {
-            Ok(image) => Ok(image),
-            Err(why) => Err(why),
-        },
+    let Plan { placed, grouping } = match make_plan(alloc, objects.items(), base, mode, steps) {
+        Ok(plan) => plan,
+        Err(why) => return Err(why),
+    };
+    match make_merged(alloc, placed, &grouping) {
+        Ok(image) => Ok(image),
+        Err(why) => Err(why),
     }
 }

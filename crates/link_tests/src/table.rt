@@ -151,5 +151,203 @@ has .stabs \"h.h\",130,0,0,0x00000000
 has .stabs \"h.h\",130,0,0,0x00000001
 # no objects
 link 0 refused 95 0 0
-rows 27
+# ---- headers merged
+# two headers that name each other, in another order
+order little
+source .stabs \"u.c\",100,0,0,0|.stabs \"p.h\",130,0,0,0|.stabs \"p:t(1,1)=*(2,1)\",128,0,0,0|.stabn 162,0,0,0|.stabs \"q.h\",130,0,0,0|.stabs \"q:t(2,1)=*(1,1)\",128,0,0,0|.stabn 162,0,0,0
+source .stabs \"v.c\",100,0,0,0|.stabs \"q.h\",130,0,0,0|.stabs \"q:t(1,1)=*(2,1)\",128,0,0,0|.stabn 162,0,0,0|.stabs \"p.h\",130,0,0,0|.stabs \"p:t(2,1)=*(1,1)\",128,0,0,0|.stabn 162,0,0,0
+merge 0 ranges 4 kept 2 entries 10
+has .stabs \"p.h\",130,0,0,0x000002e1
+has .stabs \"q.h\",130,0,0,0x000002e2
+has .stabs \"q.h\",194,0,0,0x000002e2
+has .stabs \"p.h\",194,0,0,0x000002e1
+# one name and one sum, and numbers that name other headers
+order little
+source .stabs \"u.c\",100,0,0,0|.stabs \"int:t(0,1)=r(0,1);-2147483648;2147483647;\",128,0,0,0|.stabs \"a.h\",130,0,0,0|.stabs \"a:t(1,1)=(0,1)\",128,0,0,0|.stabn 162,0,0,0|.stabs \"h.h\",130,0,0,0|.stabs \"h:t(2,1)=*(1,1)\",128,0,0,0|.stabn 162,0,0,0
+source .stabs \"v.c\",100,0,0,0|.stabs \"int:t(0,1)=r(0,1);-2147483648;2147483647;\",128,0,0,0|.stabs \"b.h\",130,0,0,0|.stabs \"b:t(1,1)=*(0,1)\",128,0,0,0|.stabn 162,0,0,0|.stabs \"h.h\",130,0,0,0|.stabs \"h:t(2,1)=*(1,1)\",128,0,0,0|.stabn 162,0,0,0
+merge 0 ranges 4 kept 4 entries 16
+has .stabs \"a.h\",130,0,0,0x000002a8
+has .stabs \"h.h\",130,0,0,0x000002d9
+has .stabs \"b.h\",130,0,0,0x000002d3
+has .stabs \"h.h\",130,0,0,0x000002da
+# a chain of ten headers, the last of which differs: none goes
+order little
+source .stabs \"u.c\",100,0,0,0|.stabs \"int:t(0,1)=r(0,1);-2147483648;2147483647;\",128,0,0,0|.stabs \"c0.h\",130,0,0,0|.stabs \"c0:t(1,1)=*(2,1)\",128,0,0,0|.stabn 162,0,0,0|.stabs \"c1.h\",130,0,0,0|.stabs \"c1:t(2,1)=*(3,1)\",128,0,0,0|.stabn 162,0,0,0|.stabs \"c2.h\",130,0,0,0|.stabs \"c2:t(3,1)=*(4,1)\",128,0,0,0|.stabn 162,0,0,0|.stabs \"c3.h\",130,0,0,0|.stabs \"c3:t(4,1)=*(5,1)\",128,0,0,0|.stabn 162,0,0,0|.stabs \"c4.h\",130,0,0,0|.stabs \"c4:t(5,1)=*(6,1)\",128,0,0,0|.stabn 162,0,0,0|.stabs \"c5.h\",130,0,0,0|.stabs \"c5:t(6,1)=*(7,1)\",128,0,0,0|.stabn 162,0,0,0|.stabs \"c6.h\",130,0,0,0|.stabs \"c6:t(7,1)=*(8,1)\",128,0,0,0|.stabn 162,0,0,0|.stabs \"c7.h\",130,0,0,0|.stabs \"c7:t(8,1)=*(9,1)\",128,0,0,0|.stabn 162,0,0,0|.stabs \"c8.h\",130,0,0,0|.stabs \"c8:t(9,1)=*(10,1)\",128,0,0,0|.stabn 162,0,0,0|.stabs \"c9.h\",130,0,0,0|.stabs \"c9:t(10,1)=(0,1)\",128,0,0,0|.stabn 162,0,0,0
+source .stabs \"v.c\",100,0,0,0|.stabs \"int:t(0,1)=r(0,1);-2147483648;2147483647;\",128,0,0,0|.stabs \"c0.h\",130,0,0,0|.stabs \"c0:t(1,1)=*(2,1)\",128,0,0,0|.stabn 162,0,0,0|.stabs \"c1.h\",130,0,0,0|.stabs \"c1:t(2,1)=*(3,1)\",128,0,0,0|.stabn 162,0,0,0|.stabs \"c2.h\",130,0,0,0|.stabs \"c2:t(3,1)=*(4,1)\",128,0,0,0|.stabn 162,0,0,0|.stabs \"c3.h\",130,0,0,0|.stabs \"c3:t(4,1)=*(5,1)\",128,0,0,0|.stabn 162,0,0,0|.stabs \"c4.h\",130,0,0,0|.stabs \"c4:t(5,1)=*(6,1)\",128,0,0,0|.stabn 162,0,0,0|.stabs \"c5.h\",130,0,0,0|.stabs \"c5:t(6,1)=*(7,1)\",128,0,0,0|.stabn 162,0,0,0|.stabs \"c6.h\",130,0,0,0|.stabs \"c6:t(7,1)=*(8,1)\",128,0,0,0|.stabn 162,0,0,0|.stabs \"c7.h\",130,0,0,0|.stabs \"c7:t(8,1)=*(9,1)\",128,0,0,0|.stabn 162,0,0,0|.stabs \"c8.h\",130,0,0,0|.stabs \"c8:t(9,1)=*(10,1)\",128,0,0,0|.stabn 162,0,0,0|.stabs \"c9.h\",130,0,0,0|.stabs \"c9:t(10,1)=*(0,1)\",128,0,0,0|.stabn 162,0,0,0
+merge 0 ranges 20 kept 20 entries 64
+has .stabs \"c0.h\",130,0,0,0x00000304
+has .stabs \"c1.h\",130,0,0,0x00000305
+has .stabs \"c2.h\",130,0,0,0x00000306
+has .stabs \"c3.h\",130,0,0,0x00000307
+has .stabs \"c4.h\",130,0,0,0x00000308
+has .stabs \"c5.h\",130,0,0,0x00000309
+has .stabs \"c6.h\",130,0,0,0x0000030a
+has .stabs \"c7.h\",130,0,0,0x0000030b
+has .stabs \"c8.h\",130,0,0,0x0000030c
+has .stabs \"c9.h\",130,0,0,0x000002e3
+has .stabs \"c0.h\",130,0,0,0x00000305
+has .stabs \"c1.h\",130,0,0,0x00000306
+has .stabs \"c2.h\",130,0,0,0x00000307
+has .stabs \"c3.h\",130,0,0,0x00000308
+has .stabs \"c4.h\",130,0,0,0x00000309
+has .stabs \"c5.h\",130,0,0,0x0000030a
+has .stabs \"c6.h\",130,0,0,0x0000030b
+has .stabs \"c7.h\",130,0,0,0x0000030c
+has .stabs \"c8.h\",130,0,0,0x0000030d
+has .stabs \"c9.h\",130,0,0,0x0000030d
+# the same chain twice: all go
+order little
+source .stabs \"u.c\",100,0,0,0|.stabs \"int:t(0,1)=r(0,1);-2147483648;2147483647;\",128,0,0,0|.stabs \"c0.h\",130,0,0,0|.stabs \"c0:t(1,1)=*(2,1)\",128,0,0,0|.stabn 162,0,0,0|.stabs \"c1.h\",130,0,0,0|.stabs \"c1:t(2,1)=*(3,1)\",128,0,0,0|.stabn 162,0,0,0|.stabs \"c2.h\",130,0,0,0|.stabs \"c2:t(3,1)=*(4,1)\",128,0,0,0|.stabn 162,0,0,0|.stabs \"c3.h\",130,0,0,0|.stabs \"c3:t(4,1)=*(5,1)\",128,0,0,0|.stabn 162,0,0,0|.stabs \"c4.h\",130,0,0,0|.stabs \"c4:t(5,1)=*(6,1)\",128,0,0,0|.stabn 162,0,0,0|.stabs \"c5.h\",130,0,0,0|.stabs \"c5:t(6,1)=*(7,1)\",128,0,0,0|.stabn 162,0,0,0|.stabs \"c6.h\",130,0,0,0|.stabs \"c6:t(7,1)=*(8,1)\",128,0,0,0|.stabn 162,0,0,0|.stabs \"c7.h\",130,0,0,0|.stabs \"c7:t(8,1)=*(9,1)\",128,0,0,0|.stabn 162,0,0,0|.stabs \"c8.h\",130,0,0,0|.stabs \"c8:t(9,1)=*(10,1)\",128,0,0,0|.stabn 162,0,0,0|.stabs \"c9.h\",130,0,0,0|.stabs \"c9:t(10,1)=(0,1)\",128,0,0,0|.stabn 162,0,0,0
+source .stabs \"v.c\",100,0,0,0|.stabs \"int:t(0,1)=r(0,1);-2147483648;2147483647;\",128,0,0,0|.stabs \"c0.h\",130,0,0,0|.stabs \"c0:t(1,1)=*(2,1)\",128,0,0,0|.stabn 162,0,0,0|.stabs \"c1.h\",130,0,0,0|.stabs \"c1:t(2,1)=*(3,1)\",128,0,0,0|.stabn 162,0,0,0|.stabs \"c2.h\",130,0,0,0|.stabs \"c2:t(3,1)=*(4,1)\",128,0,0,0|.stabn 162,0,0,0|.stabs \"c3.h\",130,0,0,0|.stabs \"c3:t(4,1)=*(5,1)\",128,0,0,0|.stabn 162,0,0,0|.stabs \"c4.h\",130,0,0,0|.stabs \"c4:t(5,1)=*(6,1)\",128,0,0,0|.stabn 162,0,0,0|.stabs \"c5.h\",130,0,0,0|.stabs \"c5:t(6,1)=*(7,1)\",128,0,0,0|.stabn 162,0,0,0|.stabs \"c6.h\",130,0,0,0|.stabs \"c6:t(7,1)=*(8,1)\",128,0,0,0|.stabn 162,0,0,0|.stabs \"c7.h\",130,0,0,0|.stabs \"c7:t(8,1)=*(9,1)\",128,0,0,0|.stabn 162,0,0,0|.stabs \"c8.h\",130,0,0,0|.stabs \"c8:t(9,1)=*(10,1)\",128,0,0,0|.stabn 162,0,0,0|.stabs \"c9.h\",130,0,0,0|.stabs \"c9:t(10,1)=(0,1)\",128,0,0,0|.stabn 162,0,0,0
+merge 0 ranges 20 kept 10 entries 44
+has .stabs \"c0.h\",130,0,0,0x00000304
+has .stabs \"c1.h\",130,0,0,0x00000305
+has .stabs \"c2.h\",130,0,0,0x00000306
+has .stabs \"c3.h\",130,0,0,0x00000307
+has .stabs \"c4.h\",130,0,0,0x00000308
+has .stabs \"c5.h\",130,0,0,0x00000309
+has .stabs \"c6.h\",130,0,0,0x0000030a
+has .stabs \"c7.h\",130,0,0,0x0000030b
+has .stabs \"c8.h\",130,0,0,0x0000030c
+has .stabs \"c9.h\",130,0,0,0x000002e3
+has .stabs \"c0.h\",194,0,0,0x00000304
+has .stabs \"c1.h\",194,0,0,0x00000305
+has .stabs \"c2.h\",194,0,0,0x00000306
+has .stabs \"c3.h\",194,0,0,0x00000307
+has .stabs \"c4.h\",194,0,0,0x00000308
+has .stabs \"c5.h\",194,0,0,0x00000309
+has .stabs \"c6.h\",194,0,0,0x0000030a
+has .stabs \"c7.h\",194,0,0,0x0000030b
+has .stabs \"c8.h\",194,0,0,0x0000030c
+has .stabs \"c9.h\",194,0,0,0x000002e3
+# a ring of three headers, in three orders
+order little
+source .stabs \"u.c\",100,0,0,0|.stabs \"x.h\",130,0,0,0|.stabs \"x:t(1,1)=*(2,1)\",128,0,0,0|.stabn 162,0,0,0|.stabs \"y.h\",130,0,0,0|.stabs \"y:t(2,1)=*(3,1)\",128,0,0,0|.stabn 162,0,0,0|.stabs \"z.h\",130,0,0,0|.stabs \"z:t(3,1)=*(1,1)\",128,0,0,0|.stabn 162,0,0,0
+source .stabs \"v.c\",100,0,0,0|.stabs \"z.h\",130,0,0,0|.stabs \"z:t(1,1)=*(2,1)\",128,0,0,0|.stabn 162,0,0,0|.stabs \"x.h\",130,0,0,0|.stabs \"x:t(2,1)=*(3,1)\",128,0,0,0|.stabn 162,0,0,0|.stabs \"y.h\",130,0,0,0|.stabs \"y:t(3,1)=*(1,1)\",128,0,0,0|.stabn 162,0,0,0
+source .stabs \"w.c\",100,0,0,0|.stabs \"y.h\",130,0,0,0|.stabs \"y:t(1,1)=*(3,1)\",128,0,0,0|.stabn 162,0,0,0|.stabs \"x.h\",130,0,0,0|.stabs \"x:t(2,1)=*(1,1)\",128,0,0,0|.stabn 162,0,0,0|.stabs \"z.h\",130,0,0,0|.stabs \"z:t(3,1)=*(2,1)\",128,0,0,0|.stabn 162,0,0,0
+merge 0 ranges 9 kept 3 entries 18
+has .stabs \"x.h\",130,0,0,0x000002e9
+has .stabs \"y.h\",130,0,0,0x000002ea
+has .stabs \"z.h\",130,0,0,0x000002eb
+has .stabs \"z.h\",194,0,0,0x000002eb
+has .stabs \"x.h\",194,0,0,0x000002e9
+has .stabs \"y.h\",194,0,0,0x000002ea
+has .stabs \"y.h\",194,0,0,0x000002ea
+has .stabs \"x.h\",194,0,0,0x000002e9
+has .stabs \"z.h\",194,0,0,0x000002eb
+# a ring of three, one of which has another type in the third unit: of that unit none goes
+order little
+source .stabs \"u.c\",100,0,0,0|.stabs \"x.h\",130,0,0,0|.stabs \"x:t(1,1)=*(2,1)\",128,0,0,0|.stabn 162,0,0,0|.stabs \"y.h\",130,0,0,0|.stabs \"y:t(2,1)=*(3,1)\",128,0,0,0|.stabn 162,0,0,0|.stabs \"z.h\",130,0,0,0|.stabs \"z:t(3,1)=*(1,1)\",128,0,0,0|.stabn 162,0,0,0
+source .stabs \"v.c\",100,0,0,0|.stabs \"y.h\",130,0,0,0|.stabs \"y:t(1,1)=*(2,1)\",128,0,0,0|.stabn 162,0,0,0|.stabs \"z.h\",130,0,0,0|.stabs \"z:t(2,1)=*(3,1)\",128,0,0,0|.stabn 162,0,0,0|.stabs \"x.h\",130,0,0,0|.stabs \"x:t(3,1)=*(1,1)\",128,0,0,0|.stabn 162,0,0,0
+source .stabs \"w.c\",100,0,0,0|.stabs \"x.h\",130,0,0,0|.stabs \"x:t(1,1)=*(2,1)\",128,0,0,0|.stabn 162,0,0,0|.stabs \"y.h\",130,0,0,0|.stabs \"y:t(2,1)=*(3,1)\",128,0,0,0|.stabn 162,0,0,0|.stabs \"z.h\",130,0,0,0|.stabs \"z:t(3,1)=k(1,1)\",128,0,0,0|.stabn 162,0,0,0
+merge 0 ranges 9 kept 6 entries 24
+has .stabs \"x.h\",130,0,0,0x000002e9
+has .stabs \"y.h\",130,0,0,0x000002ea
+has .stabs \"z.h\",130,0,0,0x000002eb
+has .stabs \"y.h\",194,0,0,0x000002ea
+has .stabs \"z.h\",194,0,0,0x000002eb
+has .stabs \"x.h\",194,0,0,0x000002e9
+has .stabs \"x.h\",130,0,0,0x000002ea
+has .stabs \"y.h\",130,0,0,0x000002eb
+has .stabs \"z.h\",130,0,0,0x0000032c
+# equal texts over other headers at one place of a structure each: the third is as the first
+order little
+source .stabs \"u.c\",100,0,0,0|.stabs \"a.h\",130,0,0,0|.stabs \"a:t(1,1)=r(1,1);0;1;\",128,0,0,0|.stabn 162,0,0,0|.stabs \"b.h\",130,0,0,0|.stabs \"b:t(2,1)=r(2,1);0;2;\",128,0,0,0|.stabn 162,0,0,0|.stabs \"s.h\",130,0,0,0|.stabs \"s:T(3,1)=s8a:(1,1),0,32;b:(2,1),32,32;;\",128,0,0,0|.stabn 162,0,0,0
+source .stabs \"v.c\",100,0,0,0|.stabs \"a.h\",130,0,0,0|.stabs \"a:t(1,1)=r(1,1);0;1;\",128,0,0,0|.stabn 162,0,0,0|.stabs \"b.h\",130,0,0,0|.stabs \"b:t(2,1)=r(2,1);0;2;\",128,0,0,0|.stabn 162,0,0,0|.stabs \"s.h\",130,0,0,0|.stabs \"s:T(3,1)=s8a:(1,1),0,32;b:(1,1),32,32;;\",128,0,0,0|.stabn 162,0,0,0
+source .stabs \"w.c\",100,0,0,0|.stabs \"b.h\",130,0,0,0|.stabs \"b:t(1,1)=r(1,1);0;2;\",128,0,0,0|.stabn 162,0,0,0|.stabs \"a.h\",130,0,0,0|.stabs \"a:t(2,1)=r(2,1);0;1;\",128,0,0,0|.stabn 162,0,0,0|.stabs \"s.h\",130,0,0,0|.stabs \"s:T(3,1)=s8a:(2,1),0,32;b:(1,1),32,32;;\",128,0,0,0|.stabn 162,0,0,0
+merge 0 ranges 9 kept 4 entries 20
+has .stabs \"a.h\",130,0,0,0x0000042c
+has .stabs \"b.h\",130,0,0,0x0000042e
+has .stabs \"s.h\",130,0,0,0x000007ea
+has .stabs \"a.h\",194,0,0,0x0000042c
+has .stabs \"b.h\",194,0,0,0x0000042e
+has .stabs \"s.h\",130,0,0,0x000007eb
+has .stabs \"b.h\",194,0,0,0x0000042e
+has .stabs \"a.h\",194,0,0,0x0000042c
+has .stabs \"s.h\",194,0,0,0x000007ea
+# plain numbers stay in the shape
+order little
+source .stabs \"u.c\",100,0,0,0|.stabs \"h.h\",130,0,0,0|.stabs \"h:t(1,1)=*7\",128,0,0,0|.stabn 162,0,0,0
+source .stabs \"v.c\",100,0,0,0|.stabs \"h.h\",130,0,0,0|.stabs \"h:t(1,1)=*7\",128,0,0,0|.stabn 162,0,0,0
+source .stabs \"w.c\",100,0,0,0|.stabs \"h.h\",130,0,0,0|.stabs \"h:t(1,1)=*8\",128,0,0,0|.stabn 162,0,0,0
+merge 0 ranges 3 kept 2 entries 10
+has .stabs \"h.h\",130,0,0,0x00000262
+has .stabs \"h.h\",194,0,0,0x00000262
+has .stabs \"h.h\",130,0,0,0x00000263
+# an empty range
+order little
+source .stabs \"u.c\",100,0,0,0|.stabs \"e.h\",130,0,0,0|.stabn 162,0,0,0
+source .stabs \"v.c\",100,0,0,0|.stabs \"e.h\",130,0,0,0|.stabn 162,0,0,0
+merge 0 ranges 2 kept 1 entries 5
+has .stabs \"e.h\",130,0,0,0x00000000
+has .stabs \"e.h\",194,0,0,0x00000000
+# a number that names no header
+order little
+source .stabs \"u.c\",100,0,0,0|.stabs \"h.h\",130,0,0,0|.stabs \"h:t(1,1)=*(5,1)\",128,0,0,0|.stabn 162,0,0,0
+source .stabs \"v.c\",100,0,0,0|.stabs \"h.h\",130,0,0,0|.stabs \"h:t(1,1)=*(5,1)\",128,0,0,0|.stabn 162,0,0,0
+merge 0 ranges 2 kept 2 entries 8
+has .stabs \"h.h\",130,0,0,0x000002d9
+has .stabs \"h.h\",130,0,0,0x000002da
+# equal names in three units of which two are alike
+order little
+source .stabs \"u.c\",100,0,0,0|.stabs \"int:t(0,1)=r(0,1);-2147483648;2147483647;\",128,0,0,0|.stabs \"h.h\",130,0,0,0|.stabs \"h:t(1,1)=(0,1)\",128,0,0,0|.stabn 162,0,0,0
+source .stabs \"v.c\",100,0,0,0|.stabs \"int:t(0,1)=r(0,1);-2147483648;2147483647;\",128,0,0,0|.stabs \"h.h\",130,0,0,0|.stabs \"h:t(1,1)=*(0,1)\",128,0,0,0|.stabn 162,0,0,0
+source .stabs \"w.c\",100,0,0,0|.stabs \"int:t(0,1)=r(0,1);-2147483648;2147483647;\",128,0,0,0|.stabs \"h.h\",130,0,0,0|.stabs \"h:t(1,1)=*(0,1)\",128,0,0,0|.stabn 162,0,0,0
+merge 0 ranges 3 kept 2 entries 13
+has .stabs \"h.h\",130,0,0,0x000002af
+has .stabs \"h.h\",130,0,0,0x000002d9
+has .stabs \"h.h\",194,0,0,0x000002d9
+# a range that holds a line, inside one that goes
+order little
+source .long 0|.stabs \"u.c\",100,0,0,0|.stabs \"int:t(0,1)=r(0,1);-2147483648;2147483647;\",128,0,0,0|.stabs \"o.h\",130,0,0,0|.stabs \"o:t(1,1)=(0,1)\",128,0,0,0|.stabs \"n.h\",130,0,0,0|.stabn 68,0,9,0|.stabn 162,0,0,0|.stabn 162,0,0,0
+source .long 0|.stabs \"v.c\",100,0,0,0|.stabs \"int:t(0,1)=r(0,1);-2147483648;2147483647;\",128,0,0,0|.stabs \"o.h\",130,0,0,0|.stabs \"o:t(1,1)=(0,1)\",128,0,0,0|.stabs \"n.h\",130,0,0,0|.stabn 68,0,9,0|.stabn 162,0,0,0|.stabn 162,0,0,0
+merge 0 ranges 4 kept 3 entries 14
+has .stabs \"o.h\",130,0,0,0x000002b6
+has .stabs \"n.h\",130,0,0,0x00000000
+has .stabs \"o.h\",194,0,0,0x000002b6
+has .stabs \"n.h\",130,0,0,0x00000001
+has .stabn 68,0,9,0x00000004
+# a range that holds a variable
+order little
+source .stabs \"u.c\",100,0,0,0|.stabs \"int:t(0,1)=r(0,1);-2147483648;2147483647;\",128,0,0,0|.stabs \"v.h\",130,0,0,0|.stabs \"x:G(0,1)\",32,0,0,0|.stabn 162,0,0,0
+source .stabs \"v.c\",100,0,0,0|.stabs \"int:t(0,1)=r(0,1);-2147483648;2147483647;\",128,0,0,0|.stabs \"v.h\",130,0,0,0|.stabs \"x:G(0,1)\",32,0,0,0|.stabn 162,0,0,0
+merge 0 ranges 2 kept 2 entries 10
+has .stabs \"v.h\",130,0,0,0x000001a7
+has .stabs \"v.h\",130,0,0,0x000001a8
+# a header that one unit has twice
+order little
+source .stabs \"u.c\",100,0,0,0|.stabs \"int:t(0,1)=r(0,1);-2147483648;2147483647;\",128,0,0,0|.stabs \"h.h\",130,0,0,0|.stabs \"h:t(1,1)=(0,1)\",128,0,0,0|.stabn 162,0,0,0|.stabs \"h.h\",130,0,0,0|.stabs \"h:t(2,1)=(0,1)\",128,0,0,0|.stabn 162,0,0,0
+source .stabs \"v.c\",100,0,0,0|.stabs \"int:t(0,1)=r(0,1);-2147483648;2147483647;\",128,0,0,0|.stabs \"h.h\",130,0,0,0|.stabs \"h:t(1,1)=(0,1)\",128,0,0,0|.stabn 162,0,0,0
+merge 0 ranges 3 kept 3 entries 13
+has .stabs \"h.h\",130,0,0,0x000002af
+has .stabs \"h.h\",130,0,0,0x000002b0
+has .stabs \"h.h\",130,0,0,0x000002b1
+# equal sums and other shapes: the second has the next instance, and the third goes
+order little
+source .stabs \"u0.c\",100,0,0,0|.stabs \"int:t(0,1)=r(0,1);-2147483648;2147483647;\",128,0,0,0|.stabs \"s.h\",130,0,0,0|.stabs \"s:T(1,1)=s8ab:(0,1),0,32;ba:(0,1),32,32;;\",128,0,0,0|.stabn 162,0,0,0
+source .stabs \"u1.c\",100,0,0,0|.stabs \"int:t(0,1)=r(0,1);-2147483648;2147483647;\",128,0,0,0|.stabs \"s.h\",130,0,0,0|.stabs \"s:T(1,1)=s8ba:(0,1),0,32;ab:(0,1),32,32;;\",128,0,0,0|.stabn 162,0,0,0
+source .stabs \"u2.c\",100,0,0,0|.stabs \"int:t(0,1)=r(0,1);-2147483648;2147483647;\",128,0,0,0|.stabs \"s.h\",130,0,0,0|.stabs \"s:T(1,1)=s8ba:(0,1),0,32;ab:(0,1),32,32;;\",128,0,0,0|.stabn 162,0,0,0
+merge 0 ranges 3 kept 2 entries 13
+has .stabs \"s.h\",130,0,0,0x000008ad
+has .stabs \"s.h\",130,0,0,0x000008ae
+has .stabs \"s.h\",194,0,0,0x000008ae
+# a continued string, and an entry that is no stab in a range that goes
+order little
+source .stabs \"u.c\",100,0,0,0|.stabs \"int:t(0,1)=r(0,1);-2147483648;2147483647;\",128,0,0,0|.stabs \"h.h\",130,0,0,0|.stabs \"h:t(1,1)=*\\\\\",128,0,0,0|.stabs \"(0,1)\",128,0,0,0|.stabs \"_ku\",3,0,0,1|.stabn 162,0,0,0
+source .stabs \"v.c\",100,0,0,0|.stabs \"int:t(0,1)=r(0,1);-2147483648;2147483647;\",128,0,0,0|.stabs \"h.h\",130,0,0,0|.stabs \"h:t(1,1)=*\\\\\",128,0,0,0|.stabs \"(0,1)\",128,0,0,0|.stabs \"_kv\",3,0,0,1|.stabn 162,0,0,0
+merge 0 ranges 2 kept 1 entries 11
+has .stabs \"h.h\",130,0,0,0x000002d9
+has .stabs \"h.h\",194,0,0,0x000002d9
+# an excluded header in an object
+order little
+source .stabs \"u.c\",100,0,0,0|.stabs \"h.h\",194,0,0,5
+merge 0 refused 55 1 0
+# both byte orders
+order big
+source .stabs \"u.c\",100,0,0,0|.stabs \"int:t(0,1)=r(0,1);-2147483648;2147483647;\",128,0,0,0|.stabs \"h.h\",130,0,0,0|.stabs \"h:t(1,1)=(0,1)\",128,0,0,0|.stabn 162,0,0,0
+source .stabs \"v.c\",100,0,0,0|.stabs \"int:t(0,1)=r(0,1);-2147483648;2147483647;\",128,0,0,0|.stabs \"h.h\",130,0,0,0|.stabs \"h:t(1,1)=(0,1)\",128,0,0,0|.stabn 162,0,0,0
+merge 1000 ranges 2 kept 1 entries 8
+has .stabs \"h.h\",130,0,0,0x000002af
+has .stabs \"h.h\",194,0,0,0x000002af
+rows 45
 ";

@@ -5,6 +5,7 @@
 //! - `source LINES`: one more source, whose lines `|` parts.
 //! - `link BASE LINE`: the sources so far are linked at this hexadecimal address, which comes to this line: `ranges R kept K entries E`, or
 //!   `refused N P W`. The next source begins another list.
+//! - `merge BASE LINE`: the same, where headers are merged.
 //! - `has LINE`: a line of the assembly of the image. `rows N`: so many links there were.
 
 ghost use Rattle.std.specs.Prelude.{◌≡◌};
@@ -73,6 +74,7 @@ fn link_counted<L: Ledger>(
     order: Order,
     sources: &[Text],
     base: u32,
+    mode: Mode,
     blank: Blank,
 ) -> Result<Image, Refused>
     requires name { blank.name ≡ L.name }
@@ -85,11 +87,17 @@ fn link_counted<L: Ledger>(
         let object = assemble(alloc, source.bytes(), order)?;
         objects.push(Checked::of(alloc, object, &mut steps)?)?;
     }
-    link(alloc, &objects, base, Mode::Keep, &mut steps)
+    link(alloc, &objects, base, mode, &mut steps)
 }
 
-fn linked(alloc: Global, order: Order, sources: &[Text], base: u32) -> Result<Image, Refused> {
-    link_counted::<Brand>(alloc, order, sources, base, Blank::new(1))
+fn linked(
+    alloc: Global,
+    order: Order,
+    sources: &[Text],
+    base: u32,
+    mode: Mode,
+) -> Result<Image, Refused> {
+    link_counted::<Brand>(alloc, order, sources, base, mode, Blank::new(1))
 }
 
 fn put_linked(image: &Image, out: &mut Text) -> Result<(), Memory> {
@@ -129,12 +137,12 @@ impl Table {
         from_utf8(self.label.bytes()).unwrap_or("a row")
     }
 
-    /// Links the sources so far, and keeps the line that it comes to.
-    fn link(&mut self, base: &[u8]) -> Result<(), Memory> {
+    /// Links the sources so far in a mode, and keeps the line that it comes to.
+    fn link(&mut self, base: &[u8], mode: Mode) -> Result<(), Memory> {
         let base = u32::try_from(number_of(16, base)).unwrap_or(0);
         self.came.cut(0);
         self.image.cut(0);
-        match linked(self.alloc, self.order, self.sources.items(), base) {
+        match linked(self.alloc, self.order, self.sources.items(), base, mode) {
             Ok(image) => {
                 put_linked(&image, &mut self.came)?;
                 self.image = list(self.alloc, &image.object)?;
@@ -172,9 +180,14 @@ impl Table {
                 };
             }
             b"source" => self.sources.push(source_of(self.alloc, rest)?)?,
-            b"link" => {
+            b"link" | b"merge" => {
                 let (base, wanted) = word(rest);
-                self.link(base)?;
+                let mode = if kind == b"merge".as_slice() {
+                    Mode::Merge
+                } else {
+                    Mode::Keep
+                };
+                self.link(base, mode)?;
                 self.came_to(rt, wanted);
             }
             b"has" => self.has(rt, rest),

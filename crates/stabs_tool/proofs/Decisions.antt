@@ -1,5 +1,5 @@
 -- What was replied is decided on, with its causes: for words that are no command, and for a command by what its inputs came to.
-use Rattle.std.proofs.Common.{if◌then◌else◌, ◌≡◌, ◌≢◌, ℕ, ◌⊎◌, inl, inr, Bool, true, false, List, [], ◌∷◌, Option, Some, None, Result, Ok, Err, refl, sym, ap, subst, ◌∙◌}
+use Rattle.std.proofs.Common.{if◌then◌else◌, ◌≡◌, ◌≢◌, ℕ, ◌⊎◌, inl, inr, Bool, true, false, List, [], ◌∷◌, ◌++◌, Option, Some, None, Result, Ok, Err, refl, sym, ap, subst, ◌∙◌}
 use Rattle.std.specs.Prelude.{◌==◌, IfOk, IfSome}
 use Rattle.std.specs.List.{list_any}
 use Rattle.std.proofs.lemmas.Bool.{true≢false}
@@ -10,13 +10,14 @@ use Rattle.st_base.specs.declared.fault.Fault.{Fault}
 use Rattle.st_base.specs.declared.sizes.TheConstants.{FILE_LIMIT}
 use Rattle.nlist_codec.specs.declared.named.Named.{Named}
 use Rattle.aout_object.specs.Objects.{ObjectSpells, named_of, file_of}
-use Rattle.stab_units.specs.Worlds.{UnitsFault}
+use Rattle.unit_index.specs.Expanding.{ExpandFault}
 use Rattle.aout_object.specs.Objects.{Contents as Object}
 use Rattle.aout_object.specs.Checks.{FileFault}
 use Rattle.st_base.specs.declared.fault.TheConstants.{TOO_LARGE}
 use Rattle.stabs_asm.specs.Assembling.{assembled}
 use Rattle.stabs_asm.specs.Lines.{read_source}
 use Rattle.stabs_asm.specs.Listing.{listing}
+use Rattle.stabs_tool.specs.Checking.{check_text}
 use Rattle.stabs_tool.specs.Dump.{dump_text}
 use Rattle.type_graph.specs.declared.world.World.{World}
 use Rattle.query_text.specs.declared.query.Query.{Query}
@@ -37,10 +38,12 @@ use Rattle.stabs_tool.specs.Outcomes.{printed, usage, absent, read_fault, limit,
 use Rattle.stabs_tool.specs.Causes.{FilesSeen}
 use Rattle.stabs_tool.specs.Inputs.{loaded_inputs, HasCause, IsFailed, IsPlaced, name_at}
 use Rattle.aout_link.specs.Sources.{Source}
+use Rattle.aout_link.specs.declared.linking.Mode.{Mode}
 use Rattle.stabs_tool.specs.Objects.{OnEach}
 use Rattle.stabs_tool.specs.Linking.{image_text, entry_name, is_about_name, list_outcome, LinksSources, LinksObjects, LinksFiles}
+use Rattle.stabs_tool.specs.Asking.{AsksSources, AsksObjects, AsksFiles}
 use Rattle.stabs_tool.specs.Deciding.{Decided}
-use Rattle.stabs_tool.specs.Replies.{text_end, WorldFault, RepliesOnWorld, RepliesOnObject, OnObject, Dumps, Lists, kept_object, Answers, RepliesTo, Means}
+use Rattle.stabs_tool.specs.Replies.{text_end, WorldFault, OnWorld, RepliesOnWorld, RepliesOnObject, OnObject, Counts, Checks, Dumps, Lists, kept_object, Answers, RepliesTo, Means}
 
 -- ---- outcomes of one line
 
@@ -158,9 +161,11 @@ module _ (Writes : List ℕ → Type 0) where
   refused_plain : (name : List ℕ) (f : Fault) (o : Outcome) → o ≡ refused name f → IsPlain Writes o
   refused_plain name f o h = subst (IsPlain Writes) (sym h) (plain_refused (refused name f) (prints_refused name f))
 
-  world_plain : (name : List ℕ) (query : Query) (object : Object) (o : Outcome) → RepliesOnObject name query object o → IsPlain Writes o
-  world_plain name query object o (inl h) = on_world_plain query h.0 o h.2
-  world_plain name query object o (inr h) = refused_plain name h.0 o h.2
+  -- what is said on the world of an object, or its refusal
+  world_plain : (name : List ℕ) (object : Object) (Says : World → Outcome → Type 0) → ((world : World) (o : Outcome) → Says world o → IsPlain Writes o)
+      → (o : Outcome) → OnWorld name object Says o → IsPlain Writes o
+  world_plain name object Says plain o (inl h) = plain h.0 o h.2
+  world_plain name object Says plain o (inr h) = refused_plain name h.0 o h.2
 
   text_plain : (text : List ℕ) (o : Outcome) → o ≡ printed DONE text → IsPlain Writes o
   text_plain text o h = subst (IsPlain Writes) (sym h) (plain_done (printed DONE text) (prints_of DONE text))
@@ -198,23 +203,36 @@ module _ (Writes : List ℕ → Type 0) where
   list_plain : (sources : List Source) (f : Fault) → IsPlain Writes (list_outcome sources f)
   list_plain sources f = list_plain_by sources f (f.number == TOO_LARGE) (is_about_name f)
 
-  sources_plain : (base : ℕ) (out : List ℕ) → Writes out → (sources : List Source) (o : Outcome) → LinksSources base out sources o → IsPlain Writes o
-  sources_plain base out named sources o (inl h) = subst (IsPlain Writes) (sym h.3) (kept_with_plain out (file_of h.0.object) (image_text h.0) named)
-  sources_plain base out named sources o (inr h) = subst (IsPlain Writes) (sym h.2) (list_plain sources h.0)
+  sources_plain : (mode : Mode) (base : ℕ) (out : List ℕ) → Writes out → (sources : List Source) (o : Outcome) → LinksSources mode base out sources o → IsPlain Writes o
+  sources_plain mode base out named sources o (inl h) = subst (IsPlain Writes) (sym h.3) (kept_with_plain out (file_of h.0.object) (image_text h.0) named)
+  sources_plain mode base out named sources o (inr h) = subst (IsPlain Writes) (sym h.2) (list_plain sources h.0)
 
-  objects_plain : (base : ℕ) (out : List ℕ) (names : List (List ℕ)) → Writes out → (objects : List Object) (o : Outcome) → LinksObjects base out names objects o → IsPlain Writes o
-  objects_plain base out names named objects o h = each_plain _ _ names objects (LinksSources base out) (sources_plain base out named) o h
+  objects_plain : (mode : Mode) (base : ℕ) (out : List ℕ) (names : List (List ℕ)) → Writes out → (objects : List Object) (o : Outcome) → LinksObjects mode base out names objects o
+      → IsPlain Writes o
+  objects_plain mode base out names named objects o h = each_plain _ _ names objects (LinksSources mode base out) (sources_plain mode base out named) o h
+
+  -- a reply on the image of sources
+  asked_plain : (query : Query) (sources : List Source) (o : Outcome) → AsksSources query sources o → IsPlain Writes o
+  asked_plain query sources o (inl h) = let r = h.3 in text_plain (image_text h.0 ++ r.2) o r.4
+  asked_plain query sources o (inr h) = subst (IsPlain Writes) (sym h.2) (list_plain sources h.0)
+
+  asked_objects_plain : (query : Query) (names : List (List ℕ)) (objects : List Object) (o : Outcome) → AsksObjects query names objects o → IsPlain Writes o
+  asked_objects_plain query names objects o h = each_plain _ _ names objects (AsksSources query) (asked_plain query) o h
 
 answers_plain : (command : Command) (texts : List (List ℕ)) (o : Outcome) → Answers command texts o → IsPlain (IsWritten (asks.Command command)) o
 answers_plain (commands.Query file query) texts o h =
-    object_plain _ file (first texts) (RepliesOnObject file query) (world_plain _ file query) o h
+    object_plain _ file (first texts) (RepliesOnObject file query) (λ object. world_plain _ file object (RepliesOnWorld query) (on_world_plain _ query)) o h
+answers_plain (commands.Check file) texts o h =
+    object_plain _ file (first texts) (Checks file) (λ object. world_plain _ file object (Counts object) (λ world. text_plain _ (check_text (named_of object) world))) o h
 answers_plain (commands.Dump file) texts o h = object_plain _ file (first texts) Dumps (λ object. text_plain _ (dump_text object)) o h
 answers_plain (commands.List file) texts o h = object_plain _ file (first texts) Lists (λ object. text_plain _ (listing object)) o h
 answers_plain (commands.As order file out) texts o h =
     let made = assembled order (read_source (first texts)) in
     subst (IsPlain (IsWritten (asks.Command (commands.As order file out)))) (sym h) (kept_object_plain _ file out refl made)
-answers_plain (commands.Link base out names) texts o h =
-    each_plain _ _ _ names texts (LinksObjects base out names) (objects_plain _ base out names refl) o h
+answers_plain (commands.Link mode base out names) texts o h =
+    each_plain _ _ _ names texts (LinksObjects mode base out names) (objects_plain _ mode base out names refl) o h
+answers_plain (commands.Ask names query) texts o h =
+    each_plain _ _ _ names texts (AsksObjects query names) (asked_objects_plain _ query names) o h
 
 -- what is decided on, the files being f before and g after it
 abbrev pub IsDecided : Asked → FilesSeen → FilesSeen → Outcome → Type 0
@@ -346,15 +364,15 @@ placed_of held before now last loaded TooMany h = tt
 
 -- the fault of entries, where text ends at an address, is that of the object whose entries they are and whose text ends there
 pub world_fault : (object : Object) (end : ℕ) (entries : List Named) (f : Fault) → end ≡ text_end object → entries ≡ named_of object
-    → UnitsFault end entries f → WorldFault object f
+    → ExpandFault end entries f → WorldFault object f
 world_fault object end entries f same are fault =
-    subst (λ (z : List Named). UnitsFault (text_end object) z f) are (subst (λ (z : ℕ). UnitsFault z entries f) same fault)
+    subst (λ (z : List Named). ExpandFault (text_end object) z f) are (subst (λ (z : ℕ). ExpandFault z entries f) same fault)
 
 -- the refusal of an object
-pub by_world_fault : {E : Type 0} (name : List ℕ) (query : Query) (object : Object) (f : Fault) (res : Result Outcome E)
-    → WorldFault object f → IfOk res (λ o. o ≡ refused name f) → IfOk res (RepliesOnObject name query object)
-by_world_fault name query object f (Err e) is said = tt
-by_world_fault name query object f (Ok o) is said = inr ((f, is, said))
+pub by_world_fault : {E : Type 0} (name : List ℕ) (object : Object) (Says : World → Outcome → Type 0) (f : Fault) (res : Result Outcome E)
+    → WorldFault object f → IfOk res (λ o. o ≡ refused name f) → IfOk res (OnWorld name object Says)
+by_world_fault name object Says f (Err e) is said = tt
+by_world_fault name object Says f (Ok o) is said = inr ((f, is, said))
 
 -- what is said on the object that the bytes spell
 pub by_object : {E : Type 0} (name bytes : List ℕ) (Says : Object → Outcome → Type 0) (object : Object) (res : Result Outcome E)
@@ -377,7 +395,13 @@ by_command command of texts name read Says (Ok o) said same is answers =
     subst (λ (z : Command). Answers z texts o) (sym is) (answers o (subst (λ (z : List ℕ). OnObject name z Says o) same said))
 
 -- the image of the files that were read is the answer to the command
-pub by_link : {E : Type 0} (command : Command) (base : ℕ) (out : List ℕ) (files texts : List (List ℕ)) (res : Result Outcome E)
-    → IfOk res (LinksFiles base out files texts) → command ≡ commands.Link base out files → IfOk res (Answers command texts)
-by_link command base out files texts (Err e) said is = tt
-by_link command base out files texts (Ok o) said is = subst (λ (z : Command). Answers z texts o) (sym is) said
+pub by_link : {E : Type 0} (command : Command) (mode : Mode) (base : ℕ) (out : List ℕ) (files texts : List (List ℕ)) (res : Result Outcome E)
+    → IfOk res (LinksFiles mode base out files texts) → command ≡ commands.Link mode base out files → IfOk res (Answers command texts)
+by_link command mode base out files texts (Err e) said is = tt
+by_link command mode base out files texts (Ok o) said is = subst (λ (z : Command). Answers z texts o) (sym is) said
+
+-- and so is the reply on it
+pub by_ask : {E : Type 0} (command : Command) (query : Query) (files texts : List (List ℕ)) (res : Result Outcome E)
+    → IfOk res (AsksFiles query files texts) → command ≡ commands.Ask files query → IfOk res (Answers command texts)
+by_ask command query files texts (Err e) said is = tt
+by_ask command query files texts (Ok o) said is = subst (λ (z : Command). Answers z texts o) (sym is) said

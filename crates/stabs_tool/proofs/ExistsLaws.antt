@@ -1,5 +1,5 @@
 -- Words have an outcome over all contents that are bytes.
-use Rattle.std.proofs.Common.{◌≡◌, ◌⊎◌, inl, inr, ℕ, ◌+◌, Bool, true, false, List, [], ◌∷◌, ◌++◌, length, Option, Some, None, refl}
+use Rattle.std.proofs.Common.{◌≡◌, ◌⊎◌, inl, inr, ℕ, ◌+◌, ◌<◌, ◌≤◌, ◌^◌, Bool, true, false, List, [], ◌∷◌, ◌++◌, length, Option, Some, None, refl}
 use Rattle.std.specs.Prelude.{nat_lt, if◌then◌else◌, All as All'}
 use Rattle.std.specs.List.{sum_by, AllByRecursion}
 use Rattle.std.specs.FinMap.{get}
@@ -14,11 +14,13 @@ use Rattle.nlist_codec.specs.declared.named.Named.{Named}
 use Rattle.stab_units.specs.declared.unit.Unit.{Unit as UnitOf}
 use Rattle.stab_units.specs.Worlds.{AreUnits, UnitsFault}
 use Rattle.type_graph.specs.declared.world.World.{World}
-use Rattle.type_graph.specs.Worlds.{externals_of}
+use Rattle.unit_index.specs.Expanding.{IsExpanded, ExpandFault}
 use Rattle.st_base.specs.declared.fault.Refused.TheVariants as refusals
 use Rattle.aout_link.specs.Sources.{Source, IsLawful, HasUnits}
 use Rattle.aout_link.specs.Linking.{IsLinked, RefusesLink}
+use Rattle.aout_link.specs.Tables.{entries_of}
 use Rattle.aout_link.specs.declared.linking.Image.{Image}
+use Rattle.aout_link.specs.declared.linking.Mode.{Mode}
 use Rattle.query_text.specs.declared.query.Query.{Query}
 use Rattle.query_text.specs.Replies as replies
 use Rattle.stabs_tool.specs.declared.command.Command.{Command}
@@ -34,13 +36,15 @@ use Rattle.stabs_tool.specs.declared.outcome.TheConstants.{DONE}
 use Rattle.stabs_asm.specs.Assembling.{assembled}
 use Rattle.stabs_asm.specs.Lines.{read_source}
 use Rattle.stabs_asm.specs.Listing.{listing}
+use Rattle.stabs_tool.specs.Checking.{check_text}
 use Rattle.stabs_tool.specs.Dump.{dump_text}
 use Rattle.stabs_tool.specs.Words.{first}
 use Rattle.stabs_tool.specs.Commands.{asked, inputs_of, most_of}
 use Rattle.stabs_tool.specs.Inputs.{loaded_inputs, few_inputs, inputs_from, after_content, name_at}
 use Rattle.stabs_tool.specs.Outcomes.{printed, usage, absent, read_fault, limit, refused}
-use Rattle.stabs_tool.specs.Replies.{text_end, RepliesOnWorld, RepliesOnObject, OnObject, Dumps, Lists, kept_object, Answers, RepliesTo, Means, IsOutcome, AreBytes}
-use Rattle.stabs_tool.proofs.LinkLaws.{on_files}
+use Rattle.stabs_tool.specs.Replies.{text_end, OnWorld, RepliesOnWorld, RepliesOnObject, OnObject, Counts, Checks, Dumps, Lists, kept_object, Answers, RepliesTo, Means, IsOutcome, AreBytes}
+use Rattle.stabs_tool.proofs.FewEntries.{IsWithin, loaded_within}
+use Rattle.stabs_tool.proofs.LinkLaws.{on_files, ask_files}
 
 -- ---- what is loaded is bytes
 
@@ -98,22 +102,20 @@ all_loaded_bytes m are most total names =
 -- ---- an outcome
 
 module _ (some : (end : ℕ) (entries : List Named) → ((units : List UnitOf) × AreUnits end entries units) ⊎ ((f : Fault) × UnitsFault end entries f))
+    (world_or_fault : (end : ℕ) (entries : List Named) → ((world : World) × IsExpanded end entries world) ⊎ ((f : Fault) × ExpandFault end entries f))
     (object_or_fault : (bytes : List ℕ) → IsBytes bytes → ((object : Object) × ObjectSpells object bytes) ⊎ ((f : Fault) × FileFault bytes f))
     (a_reply : (world : World) (query : Query) → (text : List ℕ) × replies.Answers world query text)
-    (image_or_fault : (base : ℕ) (os : List Source) (old : ℕ) → All' IsLawful os → All' HasUnits os
-    → ((new : ℕ) × (image : Image) × IsLinked base os old new image) ⊎ ((f : Fault) × RefusesLink base os (refusals.At f))) where
+    (image_or_fault : (mode : Mode) (base : ℕ) (os : List Source) (old : ℕ) → All' IsLawful os → All' HasUnits os → length (entries_of os) < 2 ^ 32
+    → ((new : ℕ) × (image : Image) × IsLinked mode base os old new image) ⊎ ((f : Fault) × RefusesLink mode base os (refusals.At f))) where
   on_world : (query : Query) (world : World) → (o : Outcome) × RepliesOnWorld query world o
   on_world query world = let r = a_reply world query in (printed DONE r.0, (r.0, r.1, refl))
 
-  on_object : (name : List ℕ) (query : Query) (object : Object) → (o : Outcome) × RepliesOnObject name query object o
-  on_object name query object = by_units (some (text_end object) (named_of object)) where
-    by_units : ((units : List UnitOf) × AreUnits (text_end object) (named_of object) units) ⊎ ((f : Fault) × UnitsFault (text_end object) (named_of object) f)
-        → (o : Outcome) × RepliesOnObject name query object o
-    by_units (inl u) =
-        let world : World = record { units = u.0; externals = externals_of (named_of object) } in
-        let r = on_world query world in
-        (r.0, inl ((world, record { units = u.1; externals = refl }, r.1)))
-    by_units (inr f) = (refused name f.0, inr ((f.0, f.1, refl)))
+  on_object : (name : List ℕ) (object : Object) (Says : World → Outcome → Type 0) → ((world : World) → (o : Outcome) × Says world o) → (o : Outcome) × OnWorld name object Says o
+  on_object name object Says says = by_world (world_or_fault (text_end object) (named_of object)) where
+    by_world : ((world : World) × IsExpanded (text_end object) (named_of object) world) ⊎ ((f : Fault) × ExpandFault (text_end object) (named_of object) f)
+        → (o : Outcome) × OnWorld name object Says o
+    by_world (inl w) = let r = says w.0 in (r.0, inl ((w.0, w.1, r.1)))
+    by_world (inr f) = (refused name f.0, inr ((f.0, f.1, refl)))
 
   on_file : (name bytes : List ℕ) (Says : Object → Outcome → Type 0) → ((object : Object) → (o : Outcome) × Says object o) → IsBytes bytes
       → (o : Outcome) × OnObject name bytes Says o
@@ -122,25 +124,30 @@ module _ (some : (end : ℕ) (entries : List Named) → ((units : List UnitOf) �
     by_object (inl s) = let r = says s.0 in (r.0, (are, inl ((s.0, s.1, r.1))))
     by_object (inr f) = (refused name f.0, (are, inr ((f.0, f.1, refl))))
 
-  an_answer : (command : Command) (texts : List (List ℕ)) → AllBytes texts → (o : Outcome) × Answers command texts o
-  an_answer (commands.Query file query) texts all = on_file file (first texts) (RepliesOnObject file query) (on_object file query) (first_bytes texts all)
-  an_answer (commands.Dump file) texts all = on_file file (first texts) Dumps (λ object. (printed DONE (dump_text object), refl)) (first_bytes texts all)
-  an_answer (commands.List file) texts all = on_file file (first texts) Lists (λ object. (printed DONE (listing object), refl)) (first_bytes texts all)
-  an_answer (commands.As order file out) texts all = (kept_object file out (assembled order (read_source (first texts))), refl)
-  an_answer (commands.Link base out names) texts all = on_files some object_or_fault image_or_fault base out names texts (all_by_recursion texts all)
+  an_answer : (command : Command) (texts : List (List ℕ)) → AllBytes texts → sum_by length texts ≤ FILE_LIMIT → (o : Outcome) × Answers command texts o
+  an_answer (commands.Query file query) texts all within =
+      on_file file (first texts) (RepliesOnObject file query) (λ object. on_object file object (RepliesOnWorld query) (on_world query)) (first_bytes texts all)
+  an_answer (commands.Check file) texts all within =
+      on_file file (first texts) (Checks file) (λ object. on_object file object (Counts object) (λ world. (printed DONE (check_text (named_of object) world), refl))) (first_bytes texts all)
+  an_answer (commands.Dump file) texts all within = on_file file (first texts) Dumps (λ object. (printed DONE (dump_text object), refl)) (first_bytes texts all)
+  an_answer (commands.List file) texts all within = on_file file (first texts) Lists (λ object. (printed DONE (listing object), refl)) (first_bytes texts all)
+  an_answer (commands.As order file out) texts all within = (kept_object file out (assembled order (read_source (first texts))), refl)
+  an_answer (commands.Link mode base out names) texts all within = on_files some object_or_fault image_or_fault mode base out names texts (all_by_recursion texts all) within
+  an_answer (commands.Ask names query) texts all within = ask_files some object_or_fault image_or_fault a_reply query names texts (all_by_recursion texts all) within
 
-  a_result : (command : Command) (inputs : Inputs) → HasBytes inputs → (o : Outcome) × RepliesTo command inputs o
-  a_result command (All texts) all = an_answer command texts all
-  a_result command (Faulty at cause.Absent) all = (absent (name_at (inputs_of command) at), refl)
-  a_result command (Faulty at cause.Long) all = (limit (most_of command), refl)
-  a_result command (Faulty at cause.Failed) all = (read_fault (name_at (inputs_of command) at), refl)
-  a_result command TooMuch all = (limit FILE_LIMIT, refl)
-  a_result command TooMany all = (limit MOST_NAMES, refl)
+  a_result : (command : Command) (inputs : Inputs) → HasBytes inputs → IsWithin FILE_LIMIT inputs → (o : Outcome) × RepliesTo command inputs o
+  a_result command (All texts) all within = an_answer command texts all within
+  a_result command (Faulty at cause.Absent) all within = (absent (name_at (inputs_of command) at), refl)
+  a_result command (Faulty at cause.Long) all within = (limit (most_of command), refl)
+  a_result command (Faulty at cause.Failed) all within = (read_fault (name_at (inputs_of command) at), refl)
+  a_result command TooMuch all within = (limit FILE_LIMIT, refl)
+  a_result command TooMany all within = (limit MOST_NAMES, refl)
 
   a_meaning : (a : Asked) (m : Contents) → AreBytes m → (o : Outcome) × Means a m o
   a_meaning (asks.Wrong at) m are = (usage at, refl)
   a_meaning (asks.Command command) m are =
       a_result command (loaded_inputs m (most_of command) FILE_LIMIT (inputs_of command)) (all_loaded_bytes m are (most_of command) FILE_LIMIT (inputs_of command))
+      (loaded_within m (most_of command) FILE_LIMIT (inputs_of command))
 
   -- words have an outcome
   pub outcome_exists : (words : List (List ℕ)) (m : Contents) → AreBytes m → (o : Outcome) × IsOutcome words m o

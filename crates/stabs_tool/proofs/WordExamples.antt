@@ -1,11 +1,12 @@
 -- Worked values of what words ask, by hand.
 use Rattle.std.proofs.Common.{◌≡◌, ◌<◌, ℕ, zero, suc, Bool, true, false, ◌&&◌, List, [], ◌∷◌, Some, refl, lit<}
 use Rattle.std.specs.Prelude.{codes, nat_lt, slice_index}
-use Rattle.std.specs.Str.{is_utf8}
+use Rattle.std.specs.Str.{bytes_eq, is_utf8}
 use Rattle.std.proofs.lemmas.Bool.{ltb-true, and_parts}
 use Rattle.std.proofs.lemmas.Str.{IsUtf8-from_ascii, is_utf8-from_IsUtf8}
 use Rattle.query_text.specs.declared.query.Query.TheVariants.{TagNamed, Units}
 use Rattle.query_text.specs.Queries.{form_from}
+use Rattle.aout_link.specs.declared.linking.Mode.TheVariants as modes
 use Rattle.stabs_tool.specs.declared.command.Command.TheVariants as commands
 use Rattle.stabs_tool.specs.declared.command.Asked.TheVariants as asks
 use Rattle.readers.specs.Words.{number_at, digits_on}
@@ -133,3 +134,102 @@ no_output = rw (as_text, big_text, file_text) refl
 
 a_listing : asked (codes "list" ∷ codes "a.o" ∷ []) ≡ asks.Command (commands.List (codes "a.o"))
 a_listing = rw (list_text, file_text) refl
+
+-- ---- checks
+
+check_text : is_utf8 (codes "check") ≡ true
+unfolding all_ascii
+check_text = text (codes "check") refl
+
+a_check : asked (codes "check" ∷ codes "a.o" ∷ []) ≡ asks.Command (commands.Check (codes "a.o"))
+a_check = rw (check_text, file_text) refl
+
+checked_inputs : inputs_of (commands.Check (codes "a.o")) ≡ codes "a.o" ∷ []
+checked_inputs = refl
+
+two_checks : asked (codes "check" ∷ codes "a.o" ∷ codes "a.o" ∷ []) ≡ asks.Wrong 2
+two_checks = rw (check_text, file_text) refl
+
+-- ---- links
+
+link_text : is_utf8 (codes "link") ≡ true
+unfolding all_ascii
+link_text = text (codes "link") refl
+
+keep_text : is_utf8 (codes "keep") ≡ true
+unfolding all_ascii
+keep_text = text (codes "keep") refl
+
+base_text : is_utf8 (codes "0x1Ac") ≡ true
+unfolding all_ascii
+base_text = text (codes "0x1Ac") refl
+
+odd_text : is_utf8 (codes "0x1ae") ≡ true
+unfolding all_ascii
+odd_text = text (codes "0x1ae") refl
+
+-- every word from the fifth on is an object
+a_link : asked (codes "link" ∷ codes "keep" ∷ codes "0x1Ac" ∷ codes "tag" ∷ codes "a.o" ∷ codes "list" ∷ [])
+    ≡ asks.Command (commands.Link modes.Keep 428 (codes "tag") (codes "a.o" ∷ codes "list" ∷ []))
+a_link = rw (link_text, keep_text, base_text, tag_text, file_text, list_text) refl
+
+linked_inputs : inputs_of (commands.Link modes.Keep 428 (codes "tag") (codes "a.o" ∷ codes "list" ∷ [])) ≡ codes "a.o" ∷ codes "list" ∷ []
+linked_inputs = refl
+
+-- an address that is no multiple of 4
+an_odd_base : asked (codes "link" ∷ codes "keep" ∷ codes "0x1ae" ∷ codes "tag" ∷ codes "a.o" ∷ []) ≡ asks.Wrong 2
+an_odd_base = rw (link_text, keep_text, odd_text) refl
+
+no_object : asked (codes "link" ∷ codes "keep" ∷ codes "0x1Ac" ∷ codes "tag" ∷ []) ≡ asks.Wrong 4
+no_object = rw (link_text, keep_text, base_text, tag_text) refl
+
+-- a later object that is not UTF-8 is told at its place
+no_later_text : (word : List ℕ) → is_text word ≡ false → asked (codes "link" ∷ codes "keep" ∷ codes "0x1Ac" ∷ codes "tag" ∷ codes "a.o" ∷ codes "a.o" ∷ word ∷ []) ≡ asks.Wrong 6
+no_later_text word none = rw (link_text, keep_text, base_text, tag_text, file_text, none) refl
+
+merge_text : is_utf8 (codes "merge") ≡ true
+unfolding all_ascii
+merge_text = text (codes "merge") refl
+
+-- the other mode
+a_merge : asked (codes "link" ∷ codes "merge" ∷ codes "0x1Ac" ∷ codes "tag" ∷ codes "a.o" ∷ []) ≡ asks.Command (commands.Link modes.Merge 428 (codes "tag") (codes "a.o" ∷ []))
+a_merge = rw (link_text, merge_text, base_text, tag_text, file_text) refl
+
+-- a word that is no mode
+no_mode : asked (codes "link" ∷ codes "tag" ∷ codes "0x1Ac" ∷ codes "tag" ∷ codes "a.o" ∷ []) ≡ asks.Wrong 1
+no_mode = rw (link_text, tag_text) refl
+
+-- ---- asking
+
+ask_text : is_utf8 (codes "ask") ≡ true
+unfolding all_ascii
+ask_text = text (codes "ask") refl
+
+dashes_text : is_utf8 (codes "--") ≡ true
+unfolding all_ascii
+dashes_text = text (codes "--") refl
+
+-- the words before the first `--` are objects, those behind it a query
+an_ask : asked (codes "ask" ∷ codes "a.o" ∷ codes "list" ∷ codes "--" ∷ codes "units" ∷ []) ≡ asks.Command (commands.Ask (codes "a.o" ∷ codes "list" ∷ []) Units)
+unfolding form_from
+an_ask = rw (ask_text, file_text, name_text, units_text) refl
+
+asked_inputs : inputs_of (commands.Ask (codes "a.o" ∷ codes "list" ∷ []) Units) ≡ codes "a.o" ∷ codes "list" ∷ []
+asked_inputs = refl
+
+-- no object
+no_ask : asked (codes "ask" ∷ codes "--" ∷ codes "units" ∷ []) ≡ asks.Wrong 1
+no_ask = rw (ask_text, dashes_text) refl
+
+-- no `--`
+no_dashes : asked (codes "ask" ∷ codes "a.o" ∷ codes "units" ∷ []) ≡ asks.Wrong 3
+no_dashes = rw (ask_text, file_text, units_text) refl
+
+-- a wrong word of the query is told at its place in the line
+no_ask_query : asked (codes "ask" ∷ codes "a.o" ∷ codes "--" ∷ codes "tag" ∷ []) ≡ asks.Wrong 4
+unfolding form_from
+no_ask_query = rw (ask_text, file_text, tag_text) refl
+
+-- an object that is not UTF-8 is told before that
+no_object_text : (word : List ℕ) → is_text word ≡ false → bytes_eq word (codes "--") ≡ false → asked (codes "ask" ∷ codes "a.o" ∷ word ∷ codes "--" ∷ codes "tag" ∷ []) ≡ asks.Wrong 2
+no_object_text word none other = rw (ask_text, file_text, none, other) refl

@@ -11,6 +11,7 @@ use Rattle.aout_object.specs.Objects.{Contents as Object}
 use Rattle.aout_link.specs.Sources.{Source}
 use Rattle.aout_link.specs.Linking.{IsLinked, RefusesLink}
 use Rattle.aout_link.specs.declared.linking.Image.{Image}
+use Rattle.aout_link.specs.declared.linking.Mode.{Mode}
 use Rattle.stabs_tool.specs.declared.outcome.Outcome.{Outcome}
 use Rattle.stabs_tool.specs.Outcomes.{limit, list_refused, list_refused_at, kept_with}
 use Rattle.stabs_tool.specs.Objects.{OnObjects, OnSources}
@@ -47,14 +48,14 @@ list_outcome sources f =
 -- ---- linking
 
 -- the image of sources is stored under a name, or the list is refused
-abbrev pub LinksSources : ℕ → List ℕ → List Source → Outcome → Type 0
-LinksSources base out sources o = ((image : Image) × (steps : ℕ) × IsLinked base sources 0 steps image × (o ≡ kept_image out image))
-    ⊎ ((f : Fault) × RefusesLink base sources (refusals.At f) × (o ≡ list_outcome sources f))
+abbrev pub LinksSources : Mode → ℕ → List ℕ → List Source → Outcome → Type 0
+LinksSources mode base out sources o = ((image : Image) × (steps : ℕ) × IsLinked mode base sources 0 steps image × (o ≡ kept_image out image))
+    ⊎ ((f : Fault) × RefusesLink mode base sources (refusals.At f) × (o ≡ list_outcome sources f))
 
 -- the image of objects, whose files have these names
-abbrev pub LinksObjects : ℕ → List ℕ → List (List ℕ) → List Object → Outcome → Type 0
-LinksObjects base out names objects o = OnSources names objects (LinksSources base out) o
+abbrev pub LinksObjects : Mode → ℕ → List ℕ → List (List ℕ) → List Object → Outcome → Type 0
+LinksObjects mode base out names objects o = OnSources names objects (LinksSources mode base out) o
 
 -- the image of the objects that files with these names and texts spell
-abbrev pub LinksFiles : ℕ → List ℕ → List (List ℕ) → List (List ℕ) → Outcome → Type 0
-LinksFiles base out names texts o = OnObjects names texts (LinksObjects base out names) o
+abbrev pub LinksFiles : Mode → ℕ → List ℕ → List (List ℕ) → List (List ℕ) → Outcome → Type 0
+LinksFiles mode base out names texts o = OnObjects names texts (LinksObjects mode base out names) o

@@ -8,9 +8,8 @@ use Rattle.st_base.specs.declared.sizes.TheConstants.{FILE_LIMIT}
 use Rattle.aout_object.specs.Objects.{ObjectSpells, named_of, file_of}
 use Rattle.aout_object.specs.Objects.{Contents as Object}
 use Rattle.aout_object.specs.Checks.{FileFault}
-use Rattle.stab_units.specs.Worlds.{UnitsFault}
 use Rattle.type_graph.specs.declared.world.World.{World}
-use Rattle.type_graph.specs.Worlds.{IsWorldOf}
+use Rattle.unit_index.specs.Expanding.{IsExpanded, ExpandFault}
 use Rattle.query_text.specs.declared.query.Query.{Query}
 use Rattle.query_text.specs.Replies as replies
 use Rattle.stabs_asm.specs.Assembling.{assembled}
@@ -28,9 +27,11 @@ use Rattle.stabs_tool.specs.declared.outcome.Outcome.{Outcome}
 use Rattle.stabs_tool.specs.declared.outcome.TheConstants.{DONE}
 use Rattle.stabs_tool.specs.Words.{first}
 use Rattle.stabs_tool.specs.Dump.{dump_text}
+use Rattle.stabs_tool.specs.Checking.{check_text}
 use Rattle.stabs_tool.specs.Commands.{asked, inputs_of, most_of}
 use Rattle.stabs_tool.specs.Inputs.{loaded_inputs, name_at}
 use Rattle.stabs_tool.specs.Linking.{LinksFiles}
+use Rattle.stabs_tool.specs.Asking.{AsksFiles}
 use Rattle.stabs_tool.specs.Outcomes.{printed, usage, absent, read_fault, limit, refused, refused_or_limit, kept}
 
 -- ---- the world of an object
@@ -39,13 +40,18 @@ use Rattle.stabs_tool.specs.Outcomes.{printed, usage, absent, read_fault, limit,
 abbrev pub text_end : Object → ℕ
 text_end object = object.parts.entry + length object.parts.text
 
--- this is the world of the object's entries
+-- this is the world of the object's entries, in which each excluded header has the symbols of the range that it stands for
 abbrev pub IsWorld : Object → World → Type 0
-IsWorld object world = IsWorldOf (text_end object) (named_of object) world
+IsWorld object world = IsExpanded (text_end object) (named_of object) world
 
--- its entries have no units, and this fault
+-- its entries have no world, and this fault
 abbrev pub WorldFault : Object → Fault → Type 0
-WorldFault object f = UnitsFault (text_end object) (named_of object) f
+WorldFault object f = ExpandFault (text_end object) (named_of object) f
+
+-- what is said on the world of an object, whose file has this name, or the refusal of the object
+abbrev pub OnWorld : List ℕ → Object → (World → Outcome → Type 0) → Outcome → Type 0
+OnWorld name object Says o = ((world : World) × IsWorld object world × Says world o)
+    ⊎ ((f : Fault) × WorldFault object f × (o ≡ refused name f))
 
 -- ---- a query of a file
 
@@ -53,10 +59,9 @@ WorldFault object f = UnitsFault (text_end object) (named_of object) f
 abbrev pub RepliesOnWorld : Query → World → Outcome → Type 0
 RepliesOnWorld query world o = (text : List ℕ) × replies.Answers world query text × (o ≡ printed DONE text)
 
--- the reply on an object, whose file has this name: that on its world, or its refusal
+-- the reply on an object, whose file has this name
 abbrev pub RepliesOnObject : List ℕ → Query → Object → Outcome → Type 0
-RepliesOnObject name query object o = ((world : World) × IsWorld object world × RepliesOnWorld query world o)
-    ⊎ ((f : Fault) × WorldFault object f × (o ≡ refused name f))
+RepliesOnObject name query object o = OnWorld name object (RepliesOnWorld query) o
 
 -- ---- the object of a file
 
@@ -64,6 +69,14 @@ RepliesOnObject name query object o = ((world : World) × IsWorld object world �
 abbrev pub OnObject : List ℕ → List ℕ → (Object → Outcome → Type 0) → Outcome → Type 0
 OnObject name bytes Says o = IsBytes bytes × (((object : Object) × ObjectSpells object bytes × Says object o)
     ⊎ ((f : Fault) × FileFault bytes f × (o ≡ refused name f)))
+
+-- how much an object has
+abbrev pub Counts : Object → World → Outcome → Type 0
+Counts object world o = o ≡ printed DONE (check_text (named_of object) world)
+
+-- how much an object has, whose file has this name
+abbrev pub Checks : List ℕ → Object → Outcome → Type 0
+Checks name object o = OnWorld name object (Counts object) o
 
 -- the dump of an object
 abbrev pub Dumps : Object → Outcome → Type 0
@@ -85,10 +98,12 @@ kept_object name out (Err f) = refused_or_limit name f
 -- the outcome of a command whose inputs have these contents
 abbrev pub Answers : Command → List (List ℕ) → Outcome → Type 0
 Answers (commands.Query file query) texts o = OnObject file (first texts) (RepliesOnObject file query) o
+Answers (commands.Check file) texts o = OnObject file (first texts) (Checks file) o
 Answers (commands.Dump file) texts o = OnObject file (first texts) Dumps o
 Answers (commands.List file) texts o = OnObject file (first texts) Lists o
 Answers (commands.As order file out) texts o = o ≡ kept_object file out (assembled order (read_source (first texts)))
-Answers (commands.Link base out names) texts o = LinksFiles base out names texts o
+Answers (commands.Link mode base out names) texts o = LinksFiles mode base out names texts o
+Answers (commands.Ask names query) texts o = AsksFiles query names texts o
 
 -- the outcome of a command whose inputs come to this
 abbrev pub RepliesTo : Command → Inputs → Outcome → Type 0

@@ -6,10 +6,12 @@ ghost use Rattle.aout_object.specs.Objects.{file_of};
 ghost use Rattle.stabs_tool.specs.Inputs.{IsPlaced};
 ghost use Rattle.stabs_tool.specs.Outcomes as outcomes;
 ghost use Rattle.stabs_tool.specs.Words as words;
-ghost use Rattle.stabs_tool.specs.Replies.{RepliesOnWorld, RepliesOnObject, OnObject, Dumps, Lists, Answers, RepliesTo, kept_object};
+ghost use Rattle.stabs_tool.specs.Replies.{RepliesOnWorld, RepliesOnObject, OnObject, Counts, Checks, Dumps, Lists, Answers, RepliesTo, kept_object};
 ghost use Rattle.stabs_asm.specs.Assembling.{assembled};
 ghost use Rattle.stabs_asm.specs.Lines.{read_source};
 
+use crate::asking::ask_files;
+use crate::checking::check_text;
 use crate::command::{Command, most_of};
 use crate::dump::dump_text;
 use crate::inputs::{Cause, Inputs};
@@ -52,6 +54,36 @@ fn query_file(alloc: Global, name: &[u8], query: &Query, bytes: &[u8]) -> Result
 {
     match decode(alloc, bytes) {
         Ok(object) => on_object(alloc, name, query, &object),
+        Err(Refused::At(fault)) => refused(alloc, name, fault),
+        Err(Refused::Memory) => Err(Memory),
+    }
+}
+
+/// How much an object has whose world this is.
+fn count_object(alloc: Global, object: &Object, world: &World) -> Result<Outcome, Memory>
+    ensures { IfOk result (Counts object.now world.now) }
+{
+    let entries = object.named(alloc)?;
+    Ok(printed(DONE, check_text(alloc, &entries, world)?))
+}
+
+/// How much an object has.
+fn check_object(alloc: Global, name: &[u8], object: &Object) -> Result<Outcome, Memory>
+    ensures { IfOk result (Checks name.now object.now) }
+{
+    match read_world(alloc, object) {
+        Ok(world) => count_object(alloc, object, &world),
+        Err(Refused::At(fault)) => refused(alloc, name, fault),
+        Err(Refused::Memory) => Err(Memory),
+    }
+}
+
+/// How much the bytes of a file have.
+fn check_file(alloc: Global, name: &[u8], bytes: &[u8]) -> Result<Outcome, Memory>
+    ensures { IfOk result (OnObject name.now bytes.now (Checks name.now)) }
+{
+    match decode(alloc, bytes) {
+        Ok(object) => check_object(alloc, name, &object),
         Err(Refused::At(fault)) => refused(alloc, name, fault),
         Err(Refused::Memory) => Err(Memory),
     }
@@ -131,6 +163,7 @@ fn answer(alloc: Global, command: &Command, texts: &[Text]) -> Result<Outcome, M
 {
     match command {
         Command::Query { file, query } => query_file(alloc, file.bytes(), query, first(texts)),
+        Command::Check { file } => check_file(alloc, file.bytes(), first(texts)),
         Command::Dump { file } => dump_file(alloc, file.bytes(), first(texts)),
         Command::List { file } => list_file(alloc, file.bytes(), first(texts)),
         Command::As { order, file, out } => assemble_source(
@@ -140,13 +173,13 @@ fn answer(alloc: Global, command: &Command, texts: &[Text]) -> Result<Outcome, M
             out.bytes(),
             first(texts),
         ),
-        Command::Link { base, out, objects } => link_files(
-            alloc,
-            *base,
-            out.bytes(),
-            objects.items(),
-            texts,
-        ),
+        Command::Link {
+            mode,
+            base,
+            out,
+            objects,
+        } => link_files(alloc, *mode, *base, out.bytes(), objects.items(), texts),
+        Command::Ask { objects, query } => ask_files(alloc, query, objects.items(), texts),
     }
 }
 

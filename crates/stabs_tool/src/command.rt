@@ -1,12 +1,14 @@
 //! What words ask: a command with its operands, or the place of the wrong word.
 
-ghost use Rattle.std.specs.Prelude.{◌≡◌, ◌≤◌, ◌++◌, IfOk, OnOk, length, drop};
+ghost use Rattle.std.specs.Prelude.{◌≡◌, ◌≤◌, ◌<◌, ◌+◌, ◌++◌, IfOk, OnOk, Ok, length, take, drop};
 ghost use Rattle.stabs_tool.specs.Commands as spec;
 
 use crate::limits::OBJECT_LIMIT;
 use crate::words::{
-    Keyword, Operand, Want, base_of, first_no_text, order_of, text_of, word_of, wrong_front,
+    Keyword, Operand, Want, base_of, first_no_text, mode_of, objects_end, order_of, text_of,
+    word_of, wrong_front,
 };
+use aout_link::Mode;
 use query_text::{Query, read_query};
 use st_base::{FILE_LIMIT, List, Memory, Order, Refused, Text};
 use stabs_asm::SOURCE_LIMIT;
@@ -19,6 +21,10 @@ pub enum Command {
     Query {
         file: Text,
         query: Query,
+    },
+    /// `check FILE`
+    Check {
+        file: Text,
     },
     /// `dump FILE`
     Dump {
@@ -34,11 +40,17 @@ pub enum Command {
         file: Text,
         out: Text,
     },
-    /// `link keep ADDR OUT OBJ...`
+    /// `link MODE ADDR OUT OBJ...`
     Link {
+        mode: Mode,
         base: u32,
         out: Text,
         objects: List<Text>,
+    },
+    /// `ask OBJ... -- QUERY...`
+    Ask {
+        objects: List<Text>,
+        query: Query,
     },
 }
 
@@ -55,17 +67,29 @@ pub enum Asked {
 enum Form {
     /// `query FILE`, and the words of a query.
     Query,
+    /// `check FILE`
+    Check,
     /// `dump FILE`
     Dump,
     /// `list FILE`
     List,
     /// `as ORDER IN OUT`
     As,
-    /// `link keep ADDR OUT OBJ`, and more words that are OBJ.
+    /// `link MODE ADDR OUT OBJ`, and more words that are OBJ.
     Link,
+    /// `ask OBJ`, more words that are OBJ, `--`, and the words of a query.
+    Ask,
 }
 
-const FORMS: [Form; 5] = [Form::Query, Form::Dump, Form::List, Form::As, Form::Link];
+const FORMS: [Form; 7] = [
+    Form::Query,
+    Form::Check,
+    Form::Dump,
+    Form::List,
+    Form::As,
+    Form::Link,
+    Form::Ask,
+];
 
 /// What the places of a form want.
 fn places_of(form: Form) -> &'static [Want]
@@ -73,6 +97,7 @@ fn places_of(form: Form) -> &'static [Want]
 {
     match form {
         Form::Query => &[Want::This(Keyword::Query), Want::Any(Operand::File)],
+        Form::Check => &[Want::This(Keyword::Check), Want::Any(Operand::File)],
         Form::Dump => &[Want::This(Keyword::Dump), Want::Any(Operand::File)],
         Form::List => &[Want::This(Keyword::List), Want::Any(Operand::File)],
         Form::As => &[
@@ -83,11 +108,12 @@ fn places_of(form: Form) -> &'static [Want]
         ],
         Form::Link => &[
             Want::This(Keyword::Link),
-            Want::This(Keyword::Keep),
+            Want::Mode,
             Want::Base,
             Want::Any(Operand::Out),
             Want::Any(Operand::File),
         ],
+        Form::Ask => &[Want::This(Keyword::Ask), Want::Object],
     }
 }
 
@@ -122,6 +148,16 @@ fn base_in(form: Form, words: &List<Text>) -> u32
     match base_of(word_of(places_of(form), words.items(), Operand::Base)) {
         Some(base) => base,
         None => 0,
+    }
+}
+
+/// The mode that MODE names.
+fn mode_in(form: Form, words: &List<Text>) -> Mode
+    ensures { result ≡ spec.mode_in form words.now }
+{
+    match mode_of(word_of(places_of(form), words.items(), Operand::Mode)) {
+        Some(mode) => mode,
+        None => Mode::Keep,
     }
 }
 
@@ -175,6 +211,50 @@ fn asked_query(alloc: Global, words: &List<Text>) -> Result<Asked, Memory>
     }
 }
 
+/// The place behind one of a list.
+fn behind(words: &[Text], place: usize) -> usize
+    requires { place < length words.now }
+    ensures { result ≡ place + 1 }
+{
+    place + 1
+}
+
+/// Copies of the words behind the first that stand before a place.
+fn objects_before(alloc: Global, words: &List<Text>, end: usize) -> Result<List<Text>, Memory>
+    requires { (1 ≤ end) × (end < length words.now) }
+    ensures { IfOk result (λ objects. objects ≡ drop 1 (take end words.now)) }
+{
+    let mut objects = List::new(alloc);
+    put_words(alloc, 1, &words.items()[..end], &mut objects)?;
+    Ok(objects)
+}
+
+/// What words ask whose objects end at the place of a `--`.
+fn asked_behind(alloc: Global, words: &List<Text>, end: usize) -> Result<Asked, Memory>
+    requires { (1 ≤ end) × (end < length words.now) }
+    ensures { IfOk result (λ asked. asked ≡ spec.asked_behind words.now (Ok end)) }
+{
+    match read_query(alloc, words, behind(words.items(), end)) {
+        Ok(query) => {
+            let objects = objects_before(alloc, words, end)?;
+            Ok(Asked::Command(Command::Ask { objects, query }))
+        }
+        Err(Refused::At(fault)) => Ok(Asked::Wrong(fault.place as usize)),
+        Err(Refused::Memory) => Err(Memory),
+    }
+}
+
+/// The question on the image of objects, or the place of the first wrong word behind the places.
+fn asked_image(alloc: Global, words: &List<Text>) -> Result<Asked, Memory>
+    requires { length (spec.places_of Form.Ask) ≤ length words.now }
+    ensures { IfOk result (λ asked. asked ≡ spec.command_of Form.Ask words.now) }
+{
+    match objects_end(places_of(Form::Ask).len(), words.items()) {
+        Ok(end) => asked_behind(alloc, words, end),
+        Err(at) => Ok(Asked::Wrong(at)),
+    }
+}
+
 /// The command, where no word follows those of the places of its form.
 fn alone(form: Form, words: &List<Text>, command: Command) -> Asked
     requires { length (spec.places_of form) ≤ length words.now }
@@ -204,6 +284,10 @@ fn command_of(alloc: Global, form: Form, words: &List<Text>) -> Result<Asked, Me
 {
     match form {
         Form::Query => asked_query(alloc, words),
+        Form::Check => {
+            let file = file_of(alloc, form, words)?;
+            Ok(alone(form, words, Command::Check { file }))
+        }
         Form::Dump => {
             let file = file_of(alloc, form, words)?;
             Ok(alone(form, words, Command::Dump { file }))
@@ -219,11 +303,19 @@ fn command_of(alloc: Global, form: Form, words: &List<Text>) -> Result<Asked, Me
             Ok(alone(form, words, Command::As { order, file, out }))
         }
         Form::Link => {
+            let mode = mode_in(form, words);
             let base = base_in(form, words);
             let out = out_of(alloc, form, words)?;
             let objects = objects_in(alloc, form, words)?;
-            Ok(with_texts(form, words, Command::Link { base, out, objects }))
+            let command = Command::Link {
+                mode,
+                base,
+                out,
+                objects,
+            };
+            Ok(with_texts(form, words, command))
         }
+        Form::Ask => asked_image(alloc, words),
     }
 }
 
@@ -265,6 +357,7 @@ pub fn inputs_of(alloc: Global, command: &Command) -> Result<List<Text>, Memory>
     let mut names = List::new(alloc);
     match command {
         Command::Query { file, query: _ } => names.push(file.copy(alloc)?)?,
+        Command::Check { file } => names.push(file.copy(alloc)?)?,
         Command::Dump { file } => names.push(file.copy(alloc)?)?,
         Command::List { file } => names.push(file.copy(alloc)?)?,
         Command::As {
@@ -273,10 +366,12 @@ pub fn inputs_of(alloc: Global, command: &Command) -> Result<List<Text>, Memory>
             out: _,
         } => names.push(file.copy(alloc)?)?,
         Command::Link {
+            mode: _,
             base: _,
             out: _,
             objects,
         } => put_words(alloc, 0, objects.items(), &mut names)?,
+        Command::Ask { objects, query: _ } => put_words(alloc, 0, objects.items(), &mut names)?,
     }
     Ok(names)
 }
@@ -287,6 +382,7 @@ pub fn most_of(command: &Command) -> u64
 {
     match command {
         Command::Query { file: _, query: _ } => FILE_LIMIT,
+        Command::Check { file: _ } => FILE_LIMIT,
         Command::Dump { file: _ } => FILE_LIMIT,
         Command::List { file: _ } => FILE_LIMIT,
         Command::As {
@@ -295,9 +391,14 @@ pub fn most_of(command: &Command) -> u64
             out: _,
         } => SOURCE_LIMIT,
         Command::Link {
+            mode: _,
             base: _,
             out: _,
             objects: _,
+        } => OBJECT_LIMIT,
+        Command::Ask {
+            objects: _,
+            query: _,
         } => OBJECT_LIMIT,
     }
 }

@@ -2,20 +2,26 @@
 
 ghost use Rattle.std.specs.Prelude.{◌≡◌, ◌⊎◌, ℕ, List, Some, None};
 ghost use Rattle.outside.specs.Causes.{Contents};
+ghost use Rattle.query_text.specs.declared.query.Query.{Query};
+ghost use Rattle.aout_link.specs.declared.linking.Mode.{Mode};
+ghost use Rattle.aout_link.specs.declared.linking.Mode.TheVariants.{Merge};
 ghost use Rattle.stabs_tool.specs.declared.outcome.Outcome.{Outcome};
 ghost use Rattle.stabs_tool.specs.Causes.{seen};
+ghost use Rattle.stabs_tool.specs.Headline.{IsAcceptedList, IsImageFile, IsAskedOf};
 ghost use Rattle.stabs_tool.specs.Promise.{IsDone};
-ghost use Rattle.stabs_tool.specs.Replies.{IsOutcome, AreBytes};
+ghost use Rattle.stabs_tool.specs.Replies.{AreBytes, IsOutcome, Means};
 
-use crate::outcome::NO_MEMORY;
+use crate::command::{Asked, Command};
+use crate::outcome::{DONE, NO_MEMORY};
 use crate::top::run;
-use aout_link::one_link;
+use aout_link::{accepted_laws, one_link};
 use aout_object::object_laws;
 use outside::{SureFiles, SureSink};
 use query_text::{a_reply, one_reply};
 use st_base::{List, Text};
 use stab_units::one_units;
 use std::alloc::Global;
+use unit_index::one_expansion;
 
 /// Words have one outcome at most over files with the same contents.
 pub fn one_outcome()
@@ -23,6 +29,7 @@ pub fn one_outcome()
 {
     object_laws();
     one_units();
+    one_expansion();
     one_reply();
     one_link();
 }
@@ -33,6 +40,28 @@ pub fn an_outcome()
 {
     object_laws();
     one_units();
+    one_expansion();
+    a_reply();
+    one_link();
+}
+
+/// An accepted list of objects has an image in either mode, and linking it is done, and so is asking a query of it. Where linking is done,
+/// what is stored is the file of an image, and every query on a file that holds its bytes is answered as on the world of the placed
+/// entries. Where asking is done, the line of the image is printed, and then the reply on that world.
+pub fn linking_laws()
+    ensures accepted { (mode : Mode) (base : ℕ) (out : List ℕ) (names : List (List ℕ)) (m : Contents) → IsAcceptedList mode base names m
+        → (o : Outcome) × Means (Asked.Command (Command.Link mode base out names)) m o × (o.status ≡ DONE) }
+    ensures stored { (mode : Mode) (base : ℕ) (out : List ℕ) (names : List (List ℕ)) (m : Contents) (o : Outcome)
+        → Means (Asked.Command (Command.Link mode base out names)) m o → o.status ≡ DONE
+        → (bytes : List ℕ) × IsImageFile mode base names m bytes × (o.stored ≡ Some (record { name = out; bytes = bytes })) }
+    ensures answered { (names : List (List ℕ)) (query : Query) (m : Contents) → IsAcceptedList Merge 0 names m
+        → (o : Outcome) × Means (Asked.Command (Command.Ask names query)) m o × (o.status ≡ DONE) }
+    ensures told { (names : List (List ℕ)) (query : Query) (m : Contents) (o : Outcome)
+        → Means (Asked.Command (Command.Ask names query)) m o → o.status ≡ DONE → IsAskedOf names query m o.text }
+{
+    object_laws();
+    one_expansion();
+    accepted_laws();
     a_reply();
     one_link();
 }

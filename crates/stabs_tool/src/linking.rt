@@ -26,7 +26,7 @@ fn put_ranges(image: &Image, out: &mut Text) -> Result<(), Memory>
 }
 
 /// `ranges R kept K entries E`.
-fn image_text(alloc: Global, image: &Image) -> Result<Text, Memory>
+pub fn image_text(alloc: Global, image: &Image) -> Result<Text, Memory>
     ensures { IfOk result (λ text. text ≡ spec.image_text image.now) }
 {
     let mut text = Text::new(alloc);
@@ -67,7 +67,7 @@ fn entry_name(sources: &List<Checked>, fault: Fault) -> &[u8]
 }
 
 /// The line of a fault of a list.
-fn refuse_list(alloc: Global, sources: &List<Checked>, fault: Fault) -> Result<Outcome, Memory>
+pub fn refuse_list(alloc: Global, sources: &List<Checked>, fault: Fault) -> Result<Outcome, Memory>
     ensures { IfOk result (λ o. o ≡ spec.list_outcome sources.now fault) }
 {
     if fault.number == TOO_LARGE {
@@ -83,6 +83,7 @@ fn refuse_list(alloc: Global, sources: &List<Checked>, fault: Fault) -> Result<O
 
 fn link_counted<L: Ledger>(
     alloc: Global,
+    mode: Mode,
     base: u32,
     out: &[u8],
     sources: &List<Checked>,
@@ -91,10 +92,10 @@ fn link_counted<L: Ledger>(
     requires name { blank.name ≡ L.name }
     requires parts { blank.parts ≡ L.parts }
     requires whole { blank.parts ≡ 1 }
-    ensures { IfOk result (spec.LinksSources base out.now sources.now) }
+    ensures { IfOk result (spec.LinksSources mode base out.now sources.now) }
 {
     let mut steps = Steps::<L>::new(blank);
-    match link(alloc, sources, base, Mode::Keep, &mut steps) {
+    match link(alloc, sources, base, mode, &mut steps) {
         Ok(image) => keep_image(alloc, out, &image),
         Err(Refused::At(fault)) => refuse_list(alloc, sources, fault),
         Err(Refused::Memory) => Err(Memory),
@@ -104,17 +105,18 @@ fn link_counted<L: Ledger>(
 /// The image of sources is to be stored.
 fn link_sources(
     alloc: Global,
+    mode: Mode,
     base: u32,
     out: &[u8],
     sources: &List<Checked>,
 ) -> Result<Outcome, Memory>
-    ensures { IfOk result (spec.LinksSources base out.now sources.now) }
+    ensures { IfOk result (spec.LinksSources mode base out.now sources.now) }
 {
-    link_counted::<Brand>(alloc, base, out, sources, Blank::new(1))
+    link_counted::<Brand>(alloc, mode, base, out, sources, Blank::new(1))
 }
 
 /// The name at a place; empty where there is none.
-fn name_at(names: &[Text], place: usize) -> &[u8]
+pub fn name_at(names: &[Text], place: usize) -> &[u8]
     ensures { result.now ≡ inputs.name_at names.now place }
 {
     match names.get(place) {
@@ -126,15 +128,16 @@ fn name_at(names: &[Text], place: usize) -> &[u8]
 /// The image of objects is to be stored.
 fn link_objects(
     alloc: Global,
+    mode: Mode,
     base: u32,
     out: &[u8],
     names: &[Text],
     objects: Objects,
 ) -> Result<Outcome, Memory>
-    ensures { IfOk result (spec.LinksObjects base out.now names.now objects) }
+    ensures { IfOk result (spec.LinksObjects mode base out.now names.now objects) }
 {
     match check_objects(alloc, objects)? {
-        Ok(sources) => link_sources(alloc, base, out, &sources),
+        Ok(sources) => link_sources(alloc, mode, base, out, &sources),
         Err(misfit) => refused(alloc, name_at(names, misfit.place), misfit.fault),
     }
 }
@@ -142,15 +145,16 @@ fn link_objects(
 /// The image of the objects that files with these names and texts spell is to be stored.
 pub fn link_files(
     alloc: Global,
+    mode: Mode,
     base: u32,
     out: &[u8],
     names: &[Text],
     texts: &[Text],
 ) -> Result<Outcome, Memory>
-    ensures { IfOk result (spec.LinksFiles base out.now names.now texts.now) }
+    ensures { IfOk result (spec.LinksFiles mode base out.now names.now texts.now) }
 {
     match read_objects(alloc, texts)? {
-        Ok(objects) => link_objects(alloc, base, out, names, objects),
+        Ok(objects) => link_objects(alloc, mode, base, out, names, objects),
         Err(misfit) => refused(alloc, name_at(names, misfit.place), misfit.fault),
     }
 }

@@ -6,7 +6,9 @@
 
 mod answer;
 mod arguments;
+mod asking;
 mod carry;
+mod checking;
 mod command;
 mod decide;
 mod dump;
@@ -25,7 +27,7 @@ mod top;
 mod words;
 
 use arguments::words_of;
-pub use laws::{an_outcome, one_outcome, run_surely};
+pub use laws::{an_outcome, linking_laws, one_outcome, run_surely};
 use outcome::NO_MEMORY;
 use outside::{DiskFiles, StreamSink};
 use std::process::ExitCode;

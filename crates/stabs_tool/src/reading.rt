@@ -8,11 +8,11 @@ ghost use Rattle.stabs_tool.specs.Replies.{IsWorld, WorldFault};
 use aout_object::Object;
 use nlist_codec::Named;
 use st_base::{List, Memory, Refused, Steps};
-use stab_units::few_units;
 use std::alloc::Global;
 use std::marker::Brand;
 use std::sync::ledger::{Blank, Ledger};
-use type_graph::{World, world_of};
+use type_graph::World;
+use unit_index::expand;
 
 // The entries of an object with their names. That an object has fewer than 2^32 of them is said by its parts.
 fn entries_of(alloc: Global, object: &Object) -> Result<List<Named>, Memory>
@@ -31,16 +31,16 @@ fn read_counted<L: Ledger>(alloc: Global, object: &Object, blank: Blank) -> Resu
     ensures few { IfOk result (λ world. length world.units < 2 ^ 32) }
     ensures refused { (f : Fault) → result ≡ Err (Refused.At f) → WorldFault object.now f }
 {
-    few_units();
     let mut steps = Steps::<L>::new(blank);
     let entries = entries_of(alloc, object)?;
-    world_of(alloc, &entries, object.text_end(), &mut steps)
+    expand(alloc, &entries, object.text_end(), &mut steps)
 }
 
-/// The world of an object: its units and its externals.
+/// The world of an object: its units, in which each excluded header has the symbols of the range that it stands for, and its externals.
 ///
-/// Refused by the first fault of the outline of its entries, or else by the first fault of a string. Takes memory for the names of
-/// all entries and for all symbols; out of memory is an answer of its own.
+/// Refused by the first fault of the outline of its entries, else by the first excluded header that does not stand for exactly one range,
+/// or else by the first fault of a string. Takes memory for the names of all entries and for all symbols; out of memory is an answer of
+/// its own.
 pub fn read_world(alloc: Global, object: &Object) -> Result<World, Refused>
     ensures found { IfOk result (IsWorld object.now) }
     ensures few { IfOk result (λ world. length world.units < 2 ^ 32) }

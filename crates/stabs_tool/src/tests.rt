@@ -3,12 +3,12 @@
 //! A line of the table begins with its kind. `#` says what the row behind it is about, and is told where the row fails.
 //!
 //! - `file NAME BYTES`: a file from here on. Bytes are two hexadecimal digits each, and texts between quotes; `_` means nothing. Where
-//!   it is an object, its assembly is assembled, and has the same dump.
+//!   it is an object, its assembly is assembled, and has the same dump and the same check.
 //! - `object ORDER NAME ENTRIES`: a file with four bytes of text at 0x1000, four of data, a relocation of each, and these entries,
 //!   each `KIND:NAME`, `KIND@VALUE:NAME` or `KIND@VALUE.DESC:NAME`, the numbers in hexadecimal digits. It goes the same round.
 //! - `files N`, `sink N`: in the next run the call of this number fails, counted from 0.
 //! - `run WORDS`: the program over all files so far, with these words.
-//! - `many N NAME WORDS`: the program with these words, and the name so many times behind them.
+//! - `many N NAME WORDS`: the program with these words, and the name so many times behind them, or where `*` stands among them.
 //! - `keep NAME FROM`: the file NAME has from here on what FROM holds behind the run.
 //! - `carry STATUS NAME BYTES TEXT`: an outcome that stores these bytes under the name and prints the text and a line feed.
 //! - `little LINES`, `big LINES`: the source in.s of these lines, which `|` parts, is assembled in this order to out.o without a word, and out.o
@@ -279,15 +279,17 @@ impl Table {
         Ok(())
     }
 
-    /// The program with these words, and a name so many times behind them.
+    /// The program with these words, and a name so many times behind them, or where `*` stands.
     fn many(&mut self, line: &[u8]) -> Result<(), Fail> {
         let (times, rest) = word(line);
         let (name, words) = word(rest);
-        let mut all = Text::of(self.alloc, words)?;
+        let (front, back) = cut(words, b'*');
+        let mut all = Text::of(self.alloc, front)?;
         for _ in 0..number_of(10, times) {
             all.push(b' ')?;
             all.extend(name)?;
         }
+        all.extend(back)?;
         self.run(all.bytes())
     }
 
@@ -346,7 +348,25 @@ impl Table {
         self.run(line.bytes())
     }
 
-    /// The file, if it is an object, is dumped, and so is what its assembly makes: the two dumps are one.
+    /// What `check` says of a file it says of what was assembled, unless it refuses both.
+    fn check_both(&mut self, rt: &impl Abort, name: &[u8]) -> Result<(), Fail> {
+        self.run_on(b"check ", name)?;
+        let status = self.status;
+        let checked = self.printed.copy(self.alloc)?;
+        self.run(b"check out.o")?;
+        assert_eq!(rt;
+            u64::from(self.status),
+            u64::from(status),
+            "{}",
+            self.label()
+        );
+        if status == 0 {
+            assert_eq!(rt; self.printed.bytes(), checked.bytes(), "{}", self.label());
+        }
+        Ok(())
+    }
+
+    /// The file, if it is an object, is dumped and checked, and so is what its assembly makes: the two dumps are one.
     fn go_round(&mut self, rt: &impl Abort, name: &[u8]) -> Result<(), Fail> {
         self.run_on(b"dump ", name)?;
         if self.status == 0 {
@@ -364,6 +384,7 @@ impl Table {
             )?;
             self.run(b"dump out.o")?;
             assert_eq!(rt; self.printed.bytes(), dumped.bytes(), "{}", self.label());
+            self.check_both(rt, name)?;
             self.source.cut(0);
             self.made.cut(0);
         }

@@ -1,11 +1,12 @@
 ghost use Rattle.stabs_tool.specs.Causes.{seen};
 ghost use Rattle.stabs_tool.specs.Commands.{asked, IsRead, IsWritten, IsWrong};
+ghost use Rattle.stabs_tool.specs.Headline.{Headline};
 ghost use Rattle.stabs_tool.specs.Promise.{Promise};
 ghost use Rattle.stabs_tool.specs.Replies.{IsOutcome};
 
 use crate::carry::carry_out;
 use crate::decide::decide;
-use crate::laws::one_outcome;
+use crate::laws::{linking_laws, one_outcome};
 use crate::outcome::NO_MEMORY;
 use outside::{Files, Sink};
 use st_base::{List, Text};
@@ -18,12 +19,16 @@ use std::alloc::Global;
 /// for an absent one, 6 where reading failed, 7 where storing or printing failed, 8 out of memory, 9 where a limit is passed.
 /// Status 8 may come at any place: no clause ties it to a refused growth.
 pub fn run<F: Files, S: Sink>(alloc: Global, words: &List<Text>, files: &mut F, out: &mut S) -> u8
-    ensures { Promise (IsOutcome words.now) (IsRead (asked words.now)) (IsWritten (asked words.now)) (IsWrong (asked words.now))
+    ensures promise { Promise (IsOutcome words.now) (IsRead (asked words.now)) (IsWritten (asked words.now)) (IsWrong (asked words.now))
         (seen (F.held files.old) (F.load_faults files.old) (F.store_faults files.old) (F.last_failed files.old))
+        (seen (F.held files.new) (F.load_faults files.new) (F.store_faults files.new) (F.last_failed files.new))
+        (S.written out.old) (S.written out.new) (S.faults out.old) (S.faults out.new) result }
+    ensures linked { Headline words.now (seen (F.held files.old) (F.load_faults files.old) (F.store_faults files.old) (F.last_failed files.old))
         (seen (F.held files.new) (F.load_faults files.new) (F.store_faults files.new) (F.last_failed files.new))
         (S.written out.old) (S.written out.new) (S.faults out.old) (S.faults out.new) result }
 {
     one_outcome();
+    linking_laws();
     match decide(alloc, words, files) {
         Err(_) => NO_MEMORY,
         Ok(outcome) => carry_out(alloc, &outcome, files, out),

@@ -1,8 +1,9 @@
 //! What the places of a command's words want, and where words are not what is wanted.
 
-ghost use Rattle.std.specs.Prelude.{◌≡◌, ◌≤◌, IfOk, length, take, drop};
+ghost use Rattle.std.specs.Prelude.{◌≡◌, ◌≤◌, ◌<◌, IfOk, length, take, drop};
 ghost use Rattle.stabs_tool.specs.Words as spec;
 
+use aout_link::Mode;
 use query_text::address_of;
 use st_base::{Memory, Order, Text};
 use std::alloc::Global;
@@ -12,11 +13,12 @@ use std::str::from_utf8;
 #[derive(Clone, Copy, Debug, Drop, PartialEq, Eq)]
 pub enum Keyword {
     Query,
+    Check,
     Dump,
     List,
     As,
     Link,
-    Keep,
+    Ask,
 }
 
 /// What a word of a command is to the command.
@@ -30,6 +32,8 @@ pub enum Operand {
     Order,
     /// ADDR, the address at which an image begins.
     Base,
+    /// MODE, which header ranges of an image are kept.
+    Mode,
 }
 
 /// What a place of a command's words wants. Wherever it stands, a word that is not UTF-8 is not wanted.
@@ -43,6 +47,10 @@ pub enum Want {
     Order,
     /// An address that is a multiple of 4: `0x` and 1 to 8 hexadecimal digits of either case.
     Base,
+    /// A mode: `keep` or `merge`.
+    Mode,
+    /// Any word but `--`, as FILE.
+    Object,
 }
 
 /// The bytes of a keyword. Takes no memory.
@@ -51,11 +59,12 @@ fn keyword_text(keyword: Keyword) -> &'static [u8]
 {
     match keyword {
         Keyword::Query => b"query",
+        Keyword::Check => b"check",
         Keyword::Dump => b"dump",
         Keyword::List => b"list",
         Keyword::As => b"as",
         Keyword::Link => b"link",
-        Keyword::Keep => b"keep",
+        Keyword::Ask => b"ask",
     }
 }
 
@@ -89,6 +98,25 @@ pub fn base_of(word: &[u8]) -> Option<u32>
     }
 }
 
+/// Which header ranges of an image are kept, as a word names it. Takes no memory.
+pub fn mode_of(word: &[u8]) -> Option<Mode>
+    ensures { result ≡ spec.mode_of word.now }
+{
+    if word == b"keep".as_slice() {
+        Some(Mode::Keep)
+    } else if word == b"merge".as_slice() {
+        Some(Mode::Merge)
+    } else {
+        None
+    }
+}
+
+fn is_dashes(word: &Text) -> bool
+    ensures { result ≡ spec.is_dashes word.now }
+{
+    word.bytes() == b"--".as_slice()
+}
+
 fn is_wanted(want: Want, word: &Text) -> bool
     ensures { result ≡ spec.is_wanted want word.now }
 {
@@ -97,6 +125,8 @@ fn is_wanted(want: Want, word: &Text) -> bool
         Want::Any(_) => true,
         Want::Order => order_of(word.bytes()).is_some(),
         Want::Base => base_of(word.bytes()).is_some(),
+        Want::Mode => mode_of(word.bytes()).is_some(),
+        Want::Object => !is_dashes(word),
     }
 }
 
@@ -146,6 +176,24 @@ pub fn first_no_text(from: usize, words: &[Text]) -> Option<usize>
     None
 }
 
+/// The place of the first `--` from a place on; or the wrong place, which is that of a word before it that is not UTF-8, or the number of
+/// words where there is no `--`. Takes no memory.
+pub fn objects_end(from: usize, words: &[Text]) -> Result<usize, usize>
+    requires { from ≤ length words.now }
+    ensures found { result ≡ spec.objects_end from (drop from words.now) }
+    ensures inside { IfOk result (λ end. (from ≤ end) × (end < length words.now)) }
+{
+    for at in from..words.len() {
+        if is_dashes(&words[at]) {
+            return Ok(at);
+        }
+        if !is_text(&words[at]) {
+            return Err(at);
+        }
+    }
+    Err(words.len())
+}
+
 fn is_operand(operand: Operand, want: Want) -> bool
     ensures { result ≡ spec.is_operand operand want }
 {
@@ -154,6 +202,8 @@ fn is_operand(operand: Operand, want: Want) -> bool
         Want::Any(other) => operand == other,
         Want::Order => operand == Operand::Order,
         Want::Base => operand == Operand::Base,
+        Want::Mode => operand == Operand::Mode,
+        Want::Object => operand == Operand::File,
     }
 }
 
