@@ -36,7 +36,7 @@ other_by k n true same none stab = let is : is_stab k ≡ is_stab n = ap is_stab
 other_by k n false same none stab = same
 
 -- a kind that is no stab is not that of a stab
-other_kind : (k n : ℕ) → is_stab k ≡ false → is_stab n ≡ true → (k == n) ≡ false
+pub other_kind : (k n : ℕ) → is_stab k ≡ false → is_stab n ≡ true → (k == n) ≡ false
 other_kind k n none stab = other_by k n (k == n) refl none stab
 
 -- nor the other way round
@@ -76,7 +76,7 @@ no_nesting : (begin end k : ℕ) → is_stab begin ≡ true → is_stab end ≡ 
 no_nesting begin end k begins_stab ends_stab none = rw (other_kind k begin none begins_stab, other_kind k end none ends_stab, other_kind k N_SO none refl) refl
 
 -- marks no header
-no_header : (k : ℕ) → is_stab k ≡ false → is_header k ≡ false
+pub no_header : (k : ℕ) → is_stab k ≡ false → is_header k ≡ false
 no_header k none = rw (other_kind k N_BINCL none refl, other_kind k N_EXCL none refl) refl
 
 -- and its string does not go on
@@ -140,7 +140,7 @@ no_plain k none = rw none refl
 
 module _ (h : Named → Named) (like : (e : Named) → IsAlike e (h e)) where
   -- an entry is the same to the ranges of headers
-  in_headers-like : (e : Named) → in_headers (h e) ≡ in_headers e
+  pub in_headers-like : (e : Named) → in_headers (h e) ≡ in_headers e
   in_headers-like e = nesting-like e (h e) (like e) N_BINCL N_EINCL refl refl
 
   -- and to blocks
@@ -171,7 +171,7 @@ module _ (h : Named → Named) (like : (e : Named) → IsAlike e (h e)) where
   ]
 
   -- behind as many headers
-  headers_in-like : (back : List Named) → headers_in (map h back) ≡ headers_in back
+  pub headers_in-like : (back : List Named) → headers_in (map h back) ≡ headers_in back
   headers_in-like [] = refl
   headers_in-like (e ∷ back) = elim (like e) [
     | inl one ↦ rw (sym one.kind, headers_in-like back) refl
@@ -194,11 +194,11 @@ module _ (h : Named → Named) (like : (e : Named) → IsAlike e (h e)) where
       (run_tells-map h link_at piece_of link_at-like piece_of-like back e es)
 
   -- the same entries begin a stab
-  begins-like : (back : List Named) (e : Named) → begins (map h back) (h e) ≡ begins back e
+  pub begins-like : (back : List Named) (e : Named) → begins (map h back) (h e) ≡ begins back e
   begins-like back e = rw (plain-like e (h e) (like e), goes_on-map h link_at piece_of link_at-like piece_of-like back e) refl
 
   -- with the same string
-  string_of-like : (e : Named) (es : List Named) → AreAlikeStabs e (h e) → string_of (h e) (map h es) ≡ string_of e es
+  pub string_of-like : (e : Named) (es : List Named) → AreAlikeStabs e (h e) → string_of (h e) (map h es) ≡ string_of e es
   string_of-like e es one = same_string _ _ _ _ _ _ (sym one.kind) (text_of-map h link_at piece_of link_at-like piece_of-like (e ∷ es)) (sym one.name)
 
   -- the string spells a symbol where it is to
@@ -230,7 +230,7 @@ abbrev shared_by : Bool → Named → Named
 shared_by true e = record { kind = e.kind; other = 0; desc = 0; value = 0; name = e.name }
 shared_by false e = record { kind = 0; other = 0; desc = 0; value = 0; name = [] }
 
-shared : Named → Named
+pub shared : Named → Named
 shared e = shared_by (is_stab e.kind) e
 
 like_by : (b : Bool) (e : Named) → is_stab e.kind ≡ b → IsAlike e (shared_by b e)
@@ -238,7 +238,7 @@ like_by true e is = inl (record { stab = is; kind = refl; name = refl })
 like_by false e is = inr (record { first = is; second = refl })
 
 -- an entry and what it shares are alike
-shared-like : (e : Named) → IsAlike e (shared e)
+pub shared-like : (e : Named) → IsAlike e (shared e)
 unfolding shared
 shared-like e = like_by (is_stab e.kind) e refl
 
@@ -253,7 +253,7 @@ same_shared e f like = elim like [
 ]
 
 -- place by place
-all_shared : (es fs : List Named) → AreAlike es fs → map shared es ≡ map shared fs
+pub all_shared : (es fs : List Named) → AreAlike es fs → map shared es ≡ map shared fs
 all_shared [] [] alike = refl
 all_shared [] (f ∷ fs) alike = absurd alike
 all_shared (e ∷ es) [] alike = absurd alike

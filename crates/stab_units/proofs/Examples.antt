@@ -16,6 +16,7 @@ use Rattle.stab_units.specs.Units.{stabs_from}
 use Rattle.stab_units.specs.Forgetting.{forgotten}
 use Rattle.stab_units.specs.Joining.{AreAlike}
 use Rattle.stab_units.specs.Changing.{Change, range_in, changed, LocalsGo}
+use Rattle.stab_units.specs.HeaderUnits.{header_units}
 
 -- an entry by its kind, its name and its value
 abbrev en : ℕ → List ℕ → ℕ → Named
@@ -165,3 +166,14 @@ local_goes = ((λ gone. refl, tt), tt)
 bracket_goes : let entries : List Named = en N_SO (97 ∷ []) 0 ∷ en N_BINCL (112 ∷ []) 0 ∷ en N_LBRAC [] 3 ∷ en N_EINCL [] 0 ∷ [] in LocalsGo first_goes entries 0 (units_of 20 entries) → ⊥
 unfolding carries_symbol
 bracket_goes locals = let kind : N_LBRAC ≡ N_LSYM = locals.0.0 refl in omega (arith, kind)
+
+-- `a` includes `b`, which has the local `i`; behind it `d/` is a unit without headers, of which nothing is seen
+with_header : header_units 20 (en N_SO (97 ∷ []) 0 ∷ en N_BINCL (98 ∷ []) 1 ∷ en N_LSYM (105 ∷ []) 2 ∷ en N_EINCL [] 0 ∷ en N_SO (100 ∷ 47 ∷ []) 8 ∷ [])
+    ≡ record { headers = (98 ∷ []) ∷ []; stabs = record { kind = N_LSYM; file = 1; string = 105 ∷ [] } ∷ [] } ∷ []
+unfolding carries_symbol
+with_header = refl
+
+-- and `d/` is the directory of `c` where that comes next, of which nothing is seen either
+with_directory : header_units 20 (en N_SO (97 ∷ []) 0 ∷ en N_EXCL (98 ∷ []) 1 ∷ en N_SO (100 ∷ 47 ∷ []) 8 ∷ en N_SO (99 ∷ []) 8 ∷ [])
+    ≡ record { headers = (98 ∷ []) ∷ []; stabs = [] } ∷ []
+with_directory = refl

@@ -22,3 +22,4 @@ pub mod ChangeFaults
 pub mod ChangeStabs
 pub mod ChangeMarks
 pub mod ChangeSpans
+pub mod HeaderUnitLemmas

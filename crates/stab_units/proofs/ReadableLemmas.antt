@@ -194,7 +194,7 @@ behind_directory back [] names = tt
 behind_directory back (f ∷ es) names = λ other. absurd (source_not (f.kind == N_SO) _ names other)
 
 -- an entry outside every unit of which nothing is told is no stab, if it is no N_SO
-no_stab : (stab source named within : Bool) (o : Option ℕ) → source ≡ false → within ≡ false → cond (not stab) None (cond (source && named) None (cond (not within) (Some NO_UNIT) o)) ≡ None → stab ≡ false
+pub no_stab : (stab source named within : Bool) (o : Option ℕ) → source ≡ false → within ≡ false → cond (not stab) None (cond (source && named) None (cond (not within) (Some NO_UNIT) o)) ≡ None → stab ≡ false
 no_stab true true named within o other out none = absurd cc
 no_stab true false named true o other out none = absurd cc
 no_stab true false named false o other out none = absurd cc

@@ -12,3 +12,4 @@ pub mod Walking
 pub mod Forgetting
 pub mod Joining
 pub mod Changing
+pub mod HeaderUnits

@@ -1,5 +1,5 @@
--- The same first faults as one pass finds them, with what it keeps of the entries before. Contracts of private functions alone use
--- these words; that each pass tells what the definition tells is in proofs/NestSweep.antt, RunSweep.antt and PlaceSweep.antt.
+-- The same first faults as one pass finds them, with what it keeps of the entries before. Contracts of private functions and of the
+-- walk `Nest` use these words; that each pass tells what the definition tells is in proofs/NestSweep.antt, RunSweep.antt and PlaceSweep.antt.
 use Rattle.std.specs.Prelude.{◌≡◌, ℕ, zero, suc, ◌+◌, ◌-◌, ◌==◌, not, Option, Some, None, option_map, unwrap_or, Bool, true, false, cond, ltb, List, [], ◌∷◌, length, slice_get}
 use Rattle.st_base.specs.declared.fault.Fault.{Fault}
 use Rattle.st_base.specs.declared.fault.TheConstants.{CONTINUATION, LONG}

@@ -15,6 +15,7 @@ ghost use Rattle.stab_units.specs.Worlds.{AreUnits, UnitsFault};
 ghost use Rattle.stab_units.specs.Forgetting.{forgotten};
 ghost use Rattle.stab_units.specs.Joining.{AreAlike};
 ghost use Rattle.stab_units.specs.Changing.{Change, changed, LocalsGo, AreSpansChanged};
+ghost use Rattle.stab_units.specs.HeaderUnits.{header_units};
 
 use stab_grammar::one_symbol;
 
@@ -83,4 +84,11 @@ pub fn changed_law()
     ensures outline { (marks : Marks) (c : Change) (text_end : ℕ) (entries : List Named) → OutlineFault marks entries None → LocalsGo c entries 0 (units_of text_end entries) → OutlineFault Image (changed c entries) None }
     ensures spans { (marks : Marks) (c : Change) (text_end : ℕ) (entries : List Named) → OutlineFault marks entries None → LocalsGo c entries 0 (units_of text_end entries) → AreSpansChanged c entries 0 (units_of text_end entries) (units_of text_end (changed c entries)) }
     ensures no_more { (c : Change) (entries : List Named) → length (changed c entries) ≤ length entries }
+{}
+
+/// The units of a list that have headers, as far as their headers go, are those of its parts where it is two lists one behind the other, and are
+/// the same for entries that are alike. A unit without headers may become a directory, and entries that are no stabs belong to none.
+pub fn header_units_law()
+    ensures joined { (marks : Marks) (end first second : ℕ) (es fs : List Named) → OutlineFault marks es None → OutlineFault marks fs None → header_units end (es ++ fs) ≡ header_units first es ++ header_units second fs }
+    ensures alike { (end other : ℕ) (es fs : List Named) → AreAlike es fs → header_units end es ≡ header_units other fs }
 {}

@@ -22,10 +22,12 @@ mod stack;
 mod unit;
 
 pub use laws::{
-    changed_law, closing_law, few_units, header_values_law, joined_law, one_outline, one_unit,
-    one_units,
+    changed_law, closing_law, few_units, header_units_law, header_values_law, joined_law,
+    one_outline, one_unit, one_units,
 };
+pub use nest::Nest;
 pub use outline_types::{HeaderMark, Marks, UnitSpan};
 pub use outlines::outline;
 pub use reading::{read_unit, units};
+pub use stack::Stack;
 pub use unit::{HeaderFile, Item, ItemText, Unit};

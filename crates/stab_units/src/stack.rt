@@ -7,8 +7,9 @@ use st_base::Memory;
 use std::alloc::Global;
 use std::marker::Model;
 
+/// A stack of numbers. Takes memory for the numbers that are on it. This project's own.
 #[derive(Debug, Drop)]
-pub(crate) struct Stack {
+pub struct Stack {
     numbers: Vec<u64>,
 }
 
@@ -22,7 +23,8 @@ impl Model for Stack {
 }
 
 impl Stack {
-    pub(crate) fn new(alloc: Global) -> Stack
+    /// A stack without numbers. Takes no memory.
+    pub fn new(alloc: Global) -> Stack
         ensures { result ≡ [] }
     {
         Stack {
@@ -30,7 +32,8 @@ impl Stack {
         }
     }
 
-    pub(crate) fn push(&mut self, number: u64) -> Result<(), Memory>
+    /// Puts a number on top. Out of memory is its only refusal, and where it is refused nothing is promised of the stack.
+    pub fn push(&mut self, number: u64) -> Result<(), Memory>
         ensures { OnOk result (self.new ≡ number ∷ self.old) }
     {
         self.numbers.push(number)?;
@@ -38,7 +41,7 @@ impl Stack {
     }
 
     /// Takes the number on top, if there is one.
-    pub(crate) fn pop(&mut self) -> Option<u64>
+    pub fn pop(&mut self) -> Option<u64>
         ensures top { result ≡ slice_get self.old 0 }
         ensures left { self.new ≡ behind_first self.old }
     {
@@ -46,7 +49,7 @@ impl Stack {
     }
 
     /// The number on top, if there is one.
-    pub(crate) fn top(&self) -> Option<u64>
+    pub fn top(&self) -> Option<u64>
         ensures { result ≡ slice_get self.now 0 }
     {
         match self.numbers.last() {
@@ -56,7 +59,7 @@ impl Stack {
     }
 
     /// Drops all numbers.
-    pub(crate) fn clear(&mut self)
+    pub fn clear(&mut self)
         ensures { self.new ≡ [] }
     {
         self.numbers.truncate(0);
