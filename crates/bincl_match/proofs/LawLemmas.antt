@@ -20,42 +20,42 @@ use Rattle.stab_units.specs.Units.{Stab, Filed, AreRead, AreUnitsOf, IsRead, IsT
 use Rattle.stab_units.specs.Worlds.{AreUnits, UnitsFault}
 use Rattle.bincl_match.specs.declared.range.RangeOf.{RangeOf}
 use Rattle.bincl_match.specs.Lawful.{IsLawful}
-use Rattle.bincl_match.specs.Ranges.{AreItems, AreRanges, among, is_repeated, ranges_from, ranges_of, typed_ranges, unit_ranges}
+use Rattle.bincl_match.specs.Ranges.{AreFound, AreItems, AreRanges, among, is_repeated, ranges_from, ranges_of, typed_ranges, unit_ranges}
 use Rattle.bincl_match.specs.Reading.{AreTyped, units_with}
 use Rattle.bincl_match.proofs.ListLemmas.{InBack, both, get_cases, get_unmap, none_is, not_both, some_is}
 use Rattle.bincl_match.proofs.CrowdLemmas.{is_like_of, repeated_of}
-use Rattle.bincl_match.proofs.SpanLemmas.{few_total, total, typed_count}
 
 -- ---- the ranges of entries
 
 -- items make units
-units_are : (entries : List Named) (spans : List UnitSpan) (items : List (List Filed)) → AreItems entries spans items → AreUnitsOf entries spans (units_with spans items)
+pub units_are : (entries : List Named) (spans : List UnitSpan) (items : List (List Filed)) → AreItems entries spans items → AreUnitsOf entries spans (units_with spans items)
 units_are entries [] [] read = tt
 units_are entries [] (fs ∷ items) read = absurd read
 units_are entries (s ∷ spans) [] read = absurd read
 units_are entries (s ∷ spans) (fs ∷ items) read = (record { items = fs; read = read.0; is = refl }, units_are entries spans items read.1)
 
--- what was read makes the ranges of the entries
-pub ranges_are : (text_end : ℕ) (entries : List Named) (spans : List UnitSpan) (typed ranges : List RangeOf) → OutlineFault Object entries None → spans ≡ units_of text_end entries
-    → AreTyped entries spans typed → ranges ≡ map (among typed) typed → AreRanges text_end entries ranges
-ranges_are text_end entries spans typed ranges none is read told =
+-- what was read are the ranges of the entries as they are found
+pub found_are : (text_end : ℕ) (entries : List Named) (spans : List UnitSpan) (ranges : List RangeOf) → OutlineFault Object entries None → spans ≡ units_of text_end entries
+    → AreTyped entries spans ranges → AreFound text_end entries ranges
+found_are text_end entries spans ranges none is read =
     let r : AreItems entries (units_of text_end entries) read.items = subst (λ (z : List UnitSpan). AreItems entries z read.items) is read.read in
     record {
       units = units_with (units_of text_end entries) read.items;
       are_units = record { no_fault = none; are = units_are entries (units_of text_end entries) read.items r };
       items = read.items;
       are_items = r;
-      are = told ∙ ap (λ (z : List RangeOf). map (among z) z) (read.are ∙ ap (λ (z : List UnitSpan). typed_ranges 0 (units_with z read.items) read.items) is);
+      are = read.are ∙ ap (λ (z : List UnitSpan). typed_ranges 0 (units_with z read.items) read.items) is;
     }
 
--- there are no more than entries
-pub typed_few : (text_end n : ℕ) (entries : List Named) (spans : List UnitSpan) (typed : List RangeOf) → spans ≡ units_of text_end entries → AreTyped entries spans typed → length entries < n → length typed < n
-typed_few text_end n entries spans typed is read few =
-    let a = ap length read.are in
-    let b = typed_count entries 0 spans read.items read.read in
-    let c = ap total is in
-    let d = few_total text_end entries in
-    omega arith
+-- and told they are the ranges of the entries
+pub ranges_are : (text_end : ℕ) (entries : List Named) (typed ranges : List RangeOf) → AreFound text_end entries typed → ranges ≡ map (among typed) typed → AreRanges text_end entries ranges
+ranges_are text_end entries typed ranges found told = record {
+  units = found.units;
+  are_units = found.are_units;
+  items = found.items;
+  are_items = found.are_items;
+  are = told ∙ ap (λ (z : List RangeOf). map (among z) z) found.are;
+}
 
 -- telling candidates adds none
 pub told_few : (n : ℕ) (typed ranges : List RangeOf) → length typed < n → ranges ≡ map (among typed) typed → length ranges < n
@@ -155,7 +155,7 @@ lawful text_end entries ranges are = subst IsLawful (sym are.are) (lawful_of are
 
 module _ (one_string : (text : List ℕ) (s t : Symbol) → IsSpelling s text → IsSpelling t text → s ≡ t) where
   -- a string is read as one text
-  text_one : (carries : Bool) (string : List ℕ) (t u : ItemText) → IsTextOf carries string t → IsTextOf carries string u → t ≡ u
+  pub text_one : (carries : Bool) (string : List ℕ) (t u : ItemText) → IsTextOf carries string t → IsTextOf carries string u → t ≡ u
   text_one carries string (texts.Symbol s) (texts.Symbol r) a b = ap texts.Symbol (one_string string s r a.1 b.1)
   text_one carries string (texts.Symbol s) (texts.Raw r) a b = let x = a.0 in let y = b.0 in absurd cc
   text_one carries string (texts.Raw t) (texts.Symbol r) a b = let x = a.0 in let y = b.0 in absurd cc
@@ -184,15 +184,24 @@ module _ (one_string : (text : List ℕ) (s t : Symbol) → IsSpelling s text �
   items_one entries (s ∷ spans) (f ∷ is) (g ∷ js) a b =
       ap (λ (z : List Filed). z ∷ is) (all_one (stabs_of entries s) f g a.0 b.0) ∙ ap (λ (z : List (List Filed)). g ∷ z) (items_one entries spans is js a.1 b.1)
 
-  -- and one list of ranges at most
+  -- and one list of ranges at most, as they are found
+  pub found_one : ((text_end : ℕ) (entries : List Named) (us vs : List Unit) → AreUnits text_end entries us → AreUnits text_end entries vs → us ≡ vs)
+      → (text_end : ℕ) (entries : List Named) (xs ys : List RangeOf) → AreFound text_end entries xs → AreFound text_end entries ys → xs ≡ ys
+  found_one one_units text_end entries xs ys a b =
+      a.are ∙ ap (λ (z : List Unit). typed_ranges 0 z a.items) (one_units text_end entries a.units b.units a.are_units b.are_units)
+      ∙ ap (typed_ranges 0 b.units) (items_one entries (units_of text_end entries) a.items b.items a.are_items b.are_items) ∙ sym b.are
+
+  -- and told
   pub ranges_one : ((text_end : ℕ) (entries : List Named) (us vs : List Unit) → AreUnits text_end entries us → AreUnits text_end entries vs → us ≡ vs)
       → (text_end : ℕ) (entries : List Named) (rs qs : List RangeOf) → AreRanges text_end entries rs → AreRanges text_end entries qs → rs ≡ qs
   ranges_one one_units text_end entries rs qs a b =
-      a.are ∙ ap (λ (z : List Unit). ranges_of z a.items) (one_units text_end entries a.units b.units a.are_units b.are_units)
-      ∙ ap (ranges_of b.units) (items_one entries (units_of text_end entries) a.items b.items a.are_items b.are_items) ∙ sym b.are
+      a.are ∙ ap (λ (z : List RangeOf). map (among z) z)
+      (found_one one_units text_end entries (typed_ranges 0 a.units a.items) (typed_ranges 0 b.units b.items)
+      (record { units = a.units; are_units = a.are_units; items = a.items; are_items = a.are_items; are = refl })
+      (record { units = b.units; are_units = b.are_units; items = b.items; are_items = b.are_items; are = refl })) ∙ sym b.are
 
 -- units that are read have items
-items_of : (entries : List Named) (spans : List UnitSpan) (us : List Unit) → AreUnitsOf entries spans us → (items : List (List Filed)) × AreItems entries spans items
+pub items_of : (entries : List Named) (spans : List UnitSpan) (us : List Unit) → AreUnitsOf entries spans us → (items : List (List Filed)) × AreItems entries spans items
 items_of entries [] [] are = ([], tt)
 items_of entries [] (u ∷ us) are = absurd are
 items_of entries (s ∷ spans) [] are = absurd are

@@ -19,3 +19,5 @@ pub mod ClassLemmas
 pub mod ReadLemmas
 pub mod SpanLemmas
 pub mod LawLemmas
+pub mod FoundLemmas
+pub mod HeaderLemmas

@@ -16,11 +16,12 @@ use Rattle.stab_units.specs.Words.{next, is_empty}
 use Rattle.stab_units.specs.Runs.{goes, continued, link_at}
 use Rattle.stab_units.specs.Marks.{file_in}
 use Rattle.stab_units.specs.Units.{Stab, Filed, AreRead, IsRead, IsTextOf, begun, has_symbol, is_plain, is_type, is_type_symbol, stab_at, stabs_from, symbols_at, symbols_in}
+use Rattle.stab_units.specs.Sweeps.{Nests}
 use Rattle.stab_units.specs.Walking.{goes_to}
-use Rattle.bincl_match.specs.declared.nest.Nest.{Nest}
+use Rattle.stab_units.specs.declared.nest.Nest.{Nest}
 use Rattle.bincl_match.specs.declared.owning.Owners.{Owners}
 use Rattle.bincl_match.specs.Ranges.{is_typed_at, is_typed}
-use Rattle.bincl_match.specs.Owning.{AreTrue, HasWalked, HasWalkedAll, Nests, is_ready_at, is_ready_entry, is_ready_in, names_type}
+use Rattle.bincl_match.specs.Owning.{AreTrue, HasWalked, HasWalkedAll, is_ready_at, is_ready_entry, is_ready_in, names_type}
 
 -- ---- tests
 

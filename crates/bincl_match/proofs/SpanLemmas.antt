@@ -1,8 +1,7 @@
 -- A list of entries has no more units and no more headers than entries, and each unit begins at an entry.
-use Rattle.std.proofs.Common.{◌≡◌, ℕ, zero, suc, ◌+◌, ◌<◌, ◌≤◌, ◌⊎◌, inl, inr, Some, Bool, true, false, cond, arith, lit≤, refl, sym, ap, subst, ◌∙◌, List, [], ◌∷◌, ◌++◌, slice_get, length, map}
+use Rattle.std.proofs.Common.{◌≡◌, ℕ, zero, suc, ◌+◌, ◌<◌, ◌≤◌, ◌⊎◌, inl, inr, Some, Bool, true, false, cond, arith, lit≤, refl, sym, ap, subst, ◌∙◌, List, [], ◌∷◌, ◌++◌, slice_get, length}
 use Rattle.std.specs.Prelude.{◌==◌, ◌&&◌, Option}
 use Rattle.std.proofs.Math.ListN.{length-append}
-use Rattle.std.proofs.lemmas.List.{length-map}
 use Rattle.stab_codes.specs.declared.code.TheConstants.{N_SO, N_BINCL, N_EXCL}
 use Rattle.nlist_codec.specs.declared.named.Named.{Named}
 use Rattle.stab_units.specs.declared.outline_types.HeaderMark.{HeaderMark}
@@ -10,9 +9,6 @@ use Rattle.stab_units.specs.declared.outline_types.UnitSpan.{UnitSpan}
 use Rattle.stab_units.specs.Words.{next, is_empty, ends_in}
 use Rattle.stab_units.specs.Marks.{mark_at, names_source}
 use Rattle.stab_units.specs.Outlines.{IsOutlined, directory_of, end_number, header_at, headers_from, inside, span_at, span_step, units_from}
-use Rattle.stab_units.specs.Units.{Filed, files_from, header_name}
-use Rattle.bincl_match.specs.Ranges.{AreItems, ranges_from, typed_ranges}
-use Rattle.bincl_match.specs.Reading.{units_with}
 use Rattle.bincl_match.proofs.ListLemmas.{none_is, some_is}
 
 -- ---- an entry begins a unit or none
@@ -132,22 +128,3 @@ outlined_headers entries items span same o =
     let h = one_of_total (units_from o.text_end [] 0 entries) o.number span o.is in
     let f = few_total o.text_end entries in
     let l = ap length same in omega arith
-
--- ---- ranges
-
--- a range for each file
-from_count : (u n : ℕ) (m : ℕ) (names : List (List ℕ)) (fs gs : List Filed) → length (ranges_from u n (files_from m names fs) gs) ≡ length names
-from_count u n m [] fs gs = refl
-from_count u n m (name ∷ names) fs gs = ap suc (from_count u (n + 1) (m + 1) names fs gs)
-
--- there is a range for each header
-pub typed_count : (entries : List Named) (n : ℕ) (spans : List UnitSpan) (items : List (List Filed)) → AreItems entries spans items → length (typed_ranges n (units_with spans items) items) ≡ total spans
-typed_count entries n [] [] read = refl
-typed_count entries n [] (fs ∷ items) read = absurd read
-typed_count entries n (s ∷ spans) [] read = absurd read
-typed_count entries n (s ∷ spans) (fs ∷ items) read =
-    let a = from_count n 1 1 (map header_name s.headers) fs fs in
-    let b = typed_count entries (n + 1) spans items read.1 in
-    let c = length-map s.headers header_name in
-    let d = length-append (ranges_from n 1 (files_from 1 (map header_name s.headers) fs) fs) (typed_ranges (n + 1) (units_with spans items) items) in
-    omega arith

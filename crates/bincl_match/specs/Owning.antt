@@ -1,16 +1,15 @@
 -- Whether the own entries of a file are N_LSYM entries with a symbol, and what one walk over the entries of a unit keeps of it.
 -- Contracts of private functions alone use these words; that they tell what `is_typed` of Ranges tells is in proofs/OwnLemmas.antt.
-use Rattle.std.specs.Prelude.{◌≡◌, ℕ, ◌<◌, ◌&&◌, ◌==◌, Bool, true, false, cond, List, length, slice_get, unwrap_or}
+use Rattle.std.specs.Prelude.{◌≡◌, ℕ, ◌<◌, ◌&&◌, ◌==◌, Bool, true, false, cond, List, length}
 use Rattle.std.specs.List.{list_all, slice_index_or}
 use Rattle.stab_codes.specs.declared.code.TheConstants.{N_LSYM}
 use Rattle.stab_codes.specs.Table.{carries_symbol}
 use Rattle.nlist_codec.specs.declared.named.Named.{Named}
 use Rattle.stab_grammar.specs.declared.tree.Symbol.{Symbol}
 use Rattle.stab_units.specs.Words.{next}
-use Rattle.stab_units.specs.Marks.{file_in, headers_in}
 use Rattle.stab_units.specs.Units.{Stab, has_symbol, is_type_symbol, spells, string_of, stabs_from}
+use Rattle.stab_units.specs.Sweeps.{Nests}
 use Rattle.stab_units.specs.Walking.{goes_to}
-use Rattle.bincl_match.specs.declared.nest.Nest.{Nest}
 use Rattle.bincl_match.specs.declared.owning.Owners.{Owners}
 
 -- ---- own entries
@@ -42,11 +41,6 @@ pub record AreTrue (count : ℕ) (flags : List Bool) : Type 0 where
 pub record AreReady (files : ℕ) (stabs : List Stab) (flags : List Bool) : Type 0 where
   pub count : length flags ≡ files
   pub each : (file : ℕ) → file < files → slice_index_or flags file false ≡ is_ready_in file stabs
-
--- the file behind entries that leave so many ranges open: the next one outside it, and so on
-pub record Nests (back : List Named) (n : Nest) : Type 0 where
-  pub open_are : (ends : ℕ) → file_in back ends ≡ unwrap_or (slice_get n.open_files ends) 0
-  pub count_is : n.headers ≡ headers_in back
 
 -- of so many files, what the flags tell of the entries before, and the entries that are left, come to what `all` tells
 pub record HasWalked (all : ℕ → Bool) (files : ℕ) (left : List Named) (o : Owners) : Type 0 where

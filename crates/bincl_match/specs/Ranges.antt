@@ -108,3 +108,25 @@ pub record AreRanges (text_end : ℕ) (entries : List Named) (ranges : List Rang
   pub items : List (List Filed)
   pub are_items : AreItems entries (units_of text_end entries) items
   pub are : ranges ≡ ranges_of units items
+
+-- ---- ranges by themselves
+
+-- the ranges of the entries of an object as they are found: each is a candidate as far as its own entries go, whatever other ranges are like it
+pub record AreFound (text_end : ℕ) (entries : List Named) (ranges : List RangeOf) : Type 0 where
+  pub units : List Unit
+  pub are_units : AreUnits text_end entries units
+  pub items : List (List Filed)
+  pub are_items : AreItems entries (units_of text_end entries) items
+  pub are : ranges ≡ typed_ranges 0 units items
+
+-- a range with this number as that of its unit
+abbrev pub in_unit : ℕ → RangeOf → RangeOf
+in_unit number x = record { unit = number; file = x.file; name = x.name; shape = x.shape; numbers = x.numbers; sum = x.sum; candidate = x.candidate }
+
+-- the lists are equal but for the numbers of units
+abbrev pub AreEqualButUnits : List RangeOf → List RangeOf → Type 0
+AreEqualButUnits xs ys = map (in_unit 0) xs ≡ map (in_unit 0) ys
+
+-- these are the ranges of the entries as they are found, but for the numbers of their units
+abbrev pub AreFoundButUnits : ℕ → List Named → List RangeOf → Type 0
+AreFoundButUnits text_end entries ranges = (found : List RangeOf) × AreFound text_end entries found × AreEqualButUnits ranges found

@@ -1,5 +1,5 @@
 -- What reading the ranges of units keeps. Contracts of private functions alone use these words.
-use Rattle.std.specs.Prelude.{◌≡◌, ℕ, ◌+◌, ◌&&◌, not, Bool, false, List, [], ◌∷◌, ◌++◌}
+use Rattle.std.specs.Prelude.{◌≡◌, ℕ, ◌+◌, ◌&&◌, not, Bool, false, List, [], ◌∷◌, ◌++◌, map}
 use Rattle.std.specs.List.{list_all, slice_index_or}
 use Rattle.st_base.specs.declared.fault.Fault.{Fault}
 use Rattle.nlist_codec.specs.declared.named.Named.{Named}
@@ -8,7 +8,7 @@ use Rattle.stab_units.specs.declared.unit.HeaderFile.{HeaderFile}
 use Rattle.stab_units.specs.declared.unit.Unit.{Unit}
 use Rattle.stab_units.specs.Units.{Filed, SpansFault, Stab, AreRead, parsed_in, unit_of}
 use Rattle.bincl_match.specs.declared.range.RangeOf.{RangeOf}
-use Rattle.bincl_match.specs.Ranges.{AreItems, range_of, typed_ranges, unit_ranges}
+use Rattle.bincl_match.specs.Ranges.{AreItems, in_unit, range_of, typed_ranges, unit_ranges}
 use Rattle.bincl_match.specs.Owning.{names_type}
 
 -- ---- one unit
@@ -55,3 +55,16 @@ abbrev pub with_flags : List RangeOf → List Bool → List RangeOf
 with_flags [] flags = []
 with_flags (x ∷ xs) [] = []
 with_flags (x ∷ xs) (b ∷ flags) = with_flag x b ∷ with_flags xs flags
+
+-- ---- units of ranges that are known
+
+-- for each header of the spans the number of its unit, where the first span has the number n
+abbrev pub unit_numbers : ℕ → List UnitSpan → List ℕ
+unit_numbers n [] = []
+unit_numbers n (s ∷ spans) = map (λ h. n) s.headers ++ unit_numbers (n + 1) spans
+
+-- ranges with the number of a unit for each
+abbrev pub with_units : List RangeOf → List ℕ → List RangeOf
+with_units [] numbers = []
+with_units (x ∷ xs) [] = []
+with_units (x ∷ xs) (n ∷ numbers) = in_unit n x ∷ with_units xs numbers

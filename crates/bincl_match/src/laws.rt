@@ -1,8 +1,9 @@
 //! What the definition of ranges says of any entries, and that of a grouping of any ranges.
 
-ghost use Rattle.std.specs.Prelude.{◌≡◌, ◌⊎◌, ◌<◌, ◌^◌, ◌++◌, ℕ, List, length, Some, slice_get};
+ghost use Rattle.std.specs.Prelude.{◌≡◌, ◌⊎◌, ◌<◌, ◌^◌, ◌++◌, [], ℕ, List, length, Some, slice_get};
 ghost use Rattle.st_base.specs.declared.fault.Fault.{Fault};
 ghost use Rattle.nlist_codec.specs.declared.named.Named.{Named};
+ghost use Rattle.stab_units.specs.Joining.{AreAlike};
 ghost use Rattle.stab_units.specs.Worlds.{UnitsFault};
 ghost use Rattle.bincl_match.specs.declared.range.Grouping.{Grouping};
 ghost use Rattle.bincl_match.specs.declared.range.RangeOf.{RangeOf};
@@ -10,10 +11,10 @@ ghost use Rattle.bincl_match.specs.Instances.{IsAlone};
 ghost use Rattle.bincl_match.specs.Lawful.{IsLawful};
 ghost use Rattle.bincl_match.specs.Matching.{Among, AreClasses, InOneClass, IsMatching};
 ghost use Rattle.bincl_match.specs.Merging.{IsMerging};
-ghost use Rattle.bincl_match.specs.Ranges.{AreRanges};
+ghost use Rattle.bincl_match.specs.Ranges.{AreFound, AreFoundButUnits, AreRanges};
 
 use stab_grammar::one_symbol;
-use stab_units::one_units;
+use stab_units::{header_units_law, joined_law, one_units};
 
 /// The entries of an object either have exactly one list of ranges, which is lawful, or have a fault that keeps them from being units.
 pub fn one_ranges()
@@ -24,6 +25,21 @@ pub fn one_ranges()
 {
     one_symbol();
     one_units();
+}
+
+/// Entries have at most one list of ranges as they are found. The ranges of two lists of entries, one of which stands behind the other,
+/// are those of the two, but for the numbers of units; entries that are alike have the same, wherever text ends, and no entries have
+/// none. So a list that is put together of many needs no look at a string to be known.
+pub fn found_laws()
+    ensures one { (text_end : ℕ) (entries : List Named) (xs ys : List RangeOf) → AreFound text_end entries xs → AreFound text_end entries ys → xs ≡ ys }
+    ensures more { (first second end : ℕ) (es fs : List Named) (xs ys : List RangeOf) → AreFoundButUnits first es xs → AreFoundButUnits second fs ys → AreFoundButUnits end (es ++ fs) (xs ++ ys) }
+    ensures like { (first end : ℕ) (es fs : List Named) (xs : List RangeOf) → AreAlike es fs → AreFoundButUnits first es xs → AreFoundButUnits end fs xs }
+    ensures none { (end : ℕ) → AreFoundButUnits end [] [] }
+{
+    one_symbol();
+    one_units();
+    joined_law();
+    header_units_law();
 }
 
 /// Every range kept: there is exactly one grouping.

@@ -5,7 +5,9 @@
 //!
 //! The law that the layers above use: the entries of an object have exactly one list of ranges, in which a unit and a file open one
 //! header at most, and a candidate is the only range of its unit with its name and shape; and a list of ranges has exactly one grouping
-//! by classes, and one in which every range is kept, both of which are mergings.
+//! by classes, and one in which every range is kept, both of which are mergings. What is found in each of several lists that stand one
+//! behind the other is, but for the numbers of units and for what some unit has twice, what is found in the whole: so a linker looks at
+//! each string once.
 //!
 //! ```text
 //! "a.c"   N_SO        unit 0
@@ -22,22 +24,22 @@
 mod crowd;
 mod groups;
 mod instances;
+mod joining;
 mod kinds;
 mod laws;
 mod matching;
-mod nest;
 mod owning;
 mod prepare;
 mod prepared;
 mod range;
 mod reading;
 mod refine;
-mod stack;
 mod sums;
 mod unit_ranges;
 
 pub use instances::{alone, instance_of, kept_of};
-pub use laws::{matching_laws, merging_laws, one_alone, one_classes, one_ranges};
+pub use joining::join_ranges;
+pub use laws::{found_laws, matching_laws, merging_laws, one_alone, one_classes, one_ranges};
 pub use matching::classes;
 pub use range::{Grouping, RangeOf};
-pub use reading::ranges;
+pub use reading::{find_ranges, ranges};

@@ -10,10 +10,10 @@ ghost use Rattle.stab_units.specs.Units.{stabs_from};
 ghost use Rattle.bincl_match.specs.Owning.{AreReady, AreTrue, HasWalked, HasWalkedAll, is_ready_entry, is_ready_in};
 
 use crate::kinds::{goes_on, is_plain, is_ready};
-use crate::nest::Nest;
 use nlist_codec::Named;
 use st_base::{List, Memory};
 use stab_codes::N_SO;
+use stab_units::Nest;
 use std::alloc::Global;
 
 /// What is kept of the entries that were walked over.

@@ -1,4 +1,10 @@
-use st_base::{List, Text};
+//! A header range, and which ranges are kept.
+
+ghost use Rattle.std.specs.Prelude.{◌≡◌, IfOk};
+ghost use Rattle.bincl_match.specs.Ranges.{in_unit};
+
+use st_base::{List, Memory, Text};
+use std::alloc::Global;
 
 /// A header range: a header that an N_BINCL opens, and what the symbols of its file are wherever it is included.
 #[derive(Debug, Drop)]
@@ -26,4 +32,78 @@ pub struct Grouping {
     pub kept: List<u32>,
     /// For each range the instance of the range that is kept for it.
     pub instance: List<u32>,
+}
+
+fn copy_texts(alloc: Global, texts: &[Text]) -> Result<List<Text>, Memory>
+    ensures { IfOk result (λ copied. copied ≡ texts.now) }
+{
+    let mut copied = List::new(alloc);
+    for text in texts {
+        copied.push(text.copy(alloc)?)?;
+    }
+    Ok(copied)
+}
+
+fn copy_numbers(alloc: Global, numbers: &[u32]) -> Result<List<u32>, Memory>
+    ensures { IfOk result (λ copied. copied ≡ numbers.now) }
+{
+    let mut copied = List::new(alloc);
+    for number in numbers {
+        copied.push(*number)?;
+    }
+    Ok(copied)
+}
+
+impl RangeOf {
+    /// A copy, in memory of its own.
+    pub fn copy(&self, alloc: Global) -> Result<RangeOf, Memory>
+        ensures { IfOk result (λ x. x ≡ self.now) }
+    {
+        Ok(RangeOf {
+            unit: self.unit,
+            file: self.file,
+            name: self.name.copy(alloc)?,
+            shape: copy_texts(alloc, self.shape.items())?,
+            numbers: copy_numbers(alloc, self.numbers.items())?,
+            sum: self.sum,
+            candidate: self.candidate,
+        })
+    }
+
+    // Nothing, for the place of a range that is taken out.
+    pub(crate) fn blank(alloc: Global) -> RangeOf {
+        RangeOf {
+            unit: 0,
+            file: 0,
+            name: Text::new(alloc),
+            shape: List::new(alloc),
+            numbers: List::new(alloc),
+            sum: 0,
+            candidate: false,
+        }
+    }
+
+    // The range with this number as that of its unit.
+    pub(crate) fn in_unit(self, number: u32) -> RangeOf
+        ensures { result ≡ in_unit number self }
+    {
+        let RangeOf {
+            unit: _,
+            file,
+            name,
+            shape,
+            numbers,
+            sum,
+            candidate,
+        } = self;
+        RangeOf {
+            unit: number,
+            file,
+            name,
+            shape,
+            numbers,
+            sum,
+            candidate,
+        }
+    }
 }

@@ -9,14 +9,14 @@ ghost use Rattle.stab_units.specs.Outlines.{IsOutlined, OutlineFault, units_of};
 ghost use Rattle.stab_units.specs.Units.{SpansFault, UnitFault, parsed, parsed_in, stabs_of};
 ghost use Rattle.stab_units.specs.Worlds.{UnitsFault, strings_in};
 ghost use Rattle.bincl_match.specs.Lawful.{IsLawful};
-ghost use Rattle.bincl_match.specs.Ranges.{AreRanges, among};
+ghost use Rattle.bincl_match.specs.Ranges.{AreFound, AreRanges, among};
 ghost use Rattle.bincl_match.specs.Reading.{AreTyped, HasRanges, with_flag, with_flags};
 
 use crate::crowd::crowded;
 use crate::range::RangeOf;
 use crate::unit_ranges::put_unit;
 use nlist_codec::Named;
-use st_base::{Fault, List, Memory, Refused, Steps, Text};
+use st_base::{Fault, List, Memory, Refused, Steps};
 use stab_units::{Marks, UnitSpan, outline, read_unit};
 use std::alloc::Global;
 use std::sync::ledger::Ledger;
@@ -73,18 +73,6 @@ fn read_spans<L: Ledger>(
 
 // ---- candidates
 
-fn blank(alloc: Global) -> RangeOf {
-    RangeOf {
-        unit: 0,
-        file: 0,
-        name: Text::new(alloc),
-        shape: List::new(alloc),
-        numbers: List::new(alloc),
-        sum: 0,
-        candidate: false,
-    }
-}
-
 fn flagged(range: RangeOf, flag: bool) -> RangeOf
     ensures { result ≡ with_flag range flag }
 {
@@ -119,14 +107,14 @@ fn all_flagged(
 {
     let mut out = List::new(alloc);
     for at in 0..flags.len() {
-        let range = ranges.replace(at, blank(alloc));
+        let range = ranges.replace(at, RangeOf::blank(alloc));
         out.push(flagged(range, flags[at]))?;
     }
     Ok(out)
 }
 
-// The same ranges, of which none is a candidate whose name and shape some unit has twice.
-fn told(alloc: Global, typed: List<RangeOf>) -> Result<List<RangeOf>, Memory>
+/// The same ranges, of which none is a candidate whose name and shape some unit has twice.
+pub(crate) fn told(alloc: Global, typed: List<RangeOf>) -> Result<List<RangeOf>, Memory>
     requires { length typed < 2 ^ 32 }
     ensures { IfOk result (λ ranges. ranges ≡ map (among typed) typed) }
 {
@@ -148,15 +136,39 @@ fn span_ranges<L: Ledger>(
     requires few { length entries.now < 2 ^ 32 }
     requires no_fault { OutlineFault Object entries.now None }
     requires outlined { spans.now ≡ units_of text_end entries.now }
-    ensures found { IfOk result (λ ranges. AreRanges text_end entries.now ranges) }
-    ensures few { IfOk result (λ ranges. length ranges < 2 ^ 32) }
+    ensures found { IfOk result (λ ranges. AreFound text_end entries.now ranges) }
     ensures refused { (f : Fault) → result ≡ Err (Refused.At f) → SpansFault entries.now spans.now f }
     ensures ticks { IfOk result (λ ranges. steps.new ≡ steps.old + parsed_in entries.now spans.now) }
 {
     match read_spans(alloc, entries, spans, steps) {
-        Ok(typed) => match told(alloc, typed) {
+        Ok(ranges) => Ok(ranges),
+        Err(refusal) => Err(refusal),
+    }
+}
+
+/// The header ranges of the entries of an object as they are found: in image order, unit by unit, and in a unit by the numbers of the
+/// files.
+///
+/// `text_end` is the address behind the text. A range is the header that an N_BINCL opens, with the shapes, files and sum of the
+/// symbols of its file. It is a candidate exactly where each stab of its file, header marks apart, is that of an N_LSYM type symbol
+/// (`t`, `T` or `Tt`), whatever other ranges there are. Refused with the fault of the outline, else with the fault of the first string
+/// that spells no symbol, as by `units`. One step is taken for each string that is parsed. Takes memory for the ranges, and for one
+/// unit at a time; out of memory is its own answer. After "The stabs debug format"; shapes, sums and candidates are this project's own.
+pub fn find_ranges<L: Ledger>(
+    alloc: Global,
+    entries: &List<Named>,
+    text_end: u32,
+    steps: &mut Steps<L>,
+) -> Result<List<RangeOf>, Refused>
+    requires { length entries.now < 2 ^ 32 }
+    ensures found { IfOk result (λ ranges. AreFound text_end entries.now ranges) }
+    ensures refused { (f : Fault) → result ≡ Err (Refused.At f) → UnitsFault text_end entries.now f }
+    ensures ticks { IfOk result (λ ranges. steps.new ≡ steps.old + strings_in text_end entries.now) }
+{
+    match outline(alloc, entries, text_end, Marks::Object) {
+        Ok(spans) => match span_ranges(alloc, entries, text_end, spans.items(), steps) {
             Ok(ranges) => Ok(ranges),
-            Err(_) => Err(Refused::Memory),
+            Err(refusal) => Err(refusal),
         },
         Err(refusal) => Err(refusal),
     }
@@ -183,10 +195,10 @@ pub fn ranges<L: Ledger>(
     ensures refused { (f : Fault) → result ≡ Err (Refused.At f) → UnitsFault text_end entries.now f }
     ensures ticks { IfOk result (λ ranges. steps.new ≡ steps.old + strings_in text_end entries.now) }
 {
-    match outline(alloc, entries, text_end, Marks::Object) {
-        Ok(spans) => match span_ranges(alloc, entries, text_end, spans.items(), steps) {
+    match find_ranges(alloc, entries, text_end, steps) {
+        Ok(found) => match told(alloc, found) {
             Ok(ranges) => Ok(ranges),
-            Err(refusal) => Err(refusal),
+            Err(_) => Err(Refused::Memory),
         },
         Err(refusal) => Err(refusal),
     }

@@ -1,0 +1,82 @@
+//! The ranges of entries of which they are known but for the numbers of units.
+
+ghost use Rattle.std.specs.Prelude.{◌≡◌, ◌<◌, ◌≤◌, ◌^◌, ◌++◌, length, map, IfOk, OnOk};
+ghost use Rattle.bincl_match.specs.Lawful.{IsLawful};
+ghost use Rattle.bincl_match.specs.Ranges.{AreFoundButUnits, AreRanges};
+ghost use Rattle.bincl_match.specs.Reading.{unit_numbers, with_units};
+
+use crate::range::RangeOf;
+use crate::reading::told;
+use nlist_codec::Named;
+use st_base::{List, Memory};
+use stab_units::{HeaderMark, Marks, UnitSpan, outline};
+use std::alloc::Global;
+
+// Appends the number of a unit for each of its headers.
+fn put_number(out: &mut List<u32>, number: u32, headers: &[HeaderMark]) -> Result<(), Memory>
+    ensures { OnOk result (out.new ≡ out.old ++ map (λ h. number) headers.now) }
+{
+    for _header in headers {
+        out.push(number)?;
+    }
+    Ok(())
+}
+
+// For each header of the spans the number of its unit.
+fn all_numbers(alloc: Global, spans: &[UnitSpan]) -> Result<List<u32>, Memory>
+    requires { length spans.now < 2 ^ 32 }
+    ensures { IfOk result (λ numbers. numbers ≡ unit_numbers 0 spans.now) }
+{
+    let mut out = List::new(alloc);
+    for (number, span) in spans.iter().enumerate() {
+        put_number(&mut out, number as u32, span.headers.items())?;
+    }
+    Ok(out)
+}
+
+// Ranges with the number of a unit for each.
+fn all_placed(
+    alloc: Global,
+    mut ranges: List<RangeOf>,
+    numbers: &[u32],
+) -> Result<List<RangeOf>, Memory>
+    requires { length numbers.now ≡ length ranges }
+    ensures { IfOk result (λ out. out ≡ with_units ranges numbers.now) }
+{
+    let mut out = List::new(alloc);
+    for at in 0..numbers.len() {
+        let range = ranges.replace(at, RangeOf::blank(alloc));
+        out.push(range.in_unit(numbers[at]))?;
+    }
+    Ok(out)
+}
+
+/// The header ranges of entries of which they are known but for the numbers of their units, as where several lists stand one behind
+/// the other. No string is parsed.
+///
+/// `text_end` is the address behind the text, and `found` has the ranges as `find_ranges` finds them, in order, whatever units they
+/// are said to be of. Each unit of the entries takes as many of them as it has headers; then it is told, as by `ranges`, which name
+/// and shape some unit has twice. Entries of which ranges are known have no fault. Takes memory for the ranges; out of memory is its
+/// own answer.
+pub fn join_ranges(
+    alloc: Global,
+    entries: &List<Named>,
+    text_end: u32,
+    found: List<RangeOf>,
+) -> Result<List<RangeOf>, Memory>
+    requires few { length entries.now < 2 ^ 32 }
+    requires found { AreFoundButUnits text_end entries.now found }
+    ensures ranges { IfOk result (λ ranges. AreRanges text_end entries.now ranges) }
+    ensures lawful { IfOk result (λ ranges. IsLawful ranges) }
+    ensures few { IfOk result (λ ranges. length ranges < 2 ^ 32) }
+{
+    match outline(alloc, entries, text_end, Marks::Object) {
+        Ok(spans) => {
+            let numbers = all_numbers(alloc, spans.items())?;
+            let placed = all_placed(alloc, found, numbers.items())?;
+            let ranges = told(alloc, placed)?;
+            Ok(ranges)
+        }
+        Err(_) => Err(Memory),
+    }
+}
