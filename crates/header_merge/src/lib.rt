@@ -6,7 +6,6 @@
 mod laws;
 mod merging;
 mod nest;
-mod stack;
 
 pub use laws::merged_world;
 pub use merging::merge_headers;

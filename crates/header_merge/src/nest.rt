@@ -8,10 +8,10 @@ ghost use Rattle.stab_units.specs.Nests.{in_headers};
 ghost use Rattle.stab_units.specs.Sweeps.{files_turned};
 ghost use Rattle.header_merge.specs.Walking.{Nests, headers_behind};
 
-use crate::stack::Stack;
 use nlist_codec::Named;
 use st_base::Memory;
 use stab_codes::{N_BINCL, N_EINCL, N_EXCL, N_SO};
+use stab_units::Stack;
 use std::alloc::Global;
 
 /// Which header ranges are open.
@@ -48,9 +48,9 @@ fn turn(stack: &mut Stack, entry: &Named, place: usize) -> Result<(), Memory>
     ensures { OnOk result (stack.new ≡ files_turned (in_headers entry.now) place stack.old) }
 {
     if entry.kind == N_BINCL {
-        stack.push(place)?;
+        stack.push(place as u64)?;
     } else if entry.kind == N_EINCL {
-        stack.pop();
+        let _closed = stack.pop();
     } else if entry.kind == N_SO {
         stack.clear();
     }
@@ -83,6 +83,9 @@ impl Nest {
     pub(crate) fn range(&self) -> Option<usize>
         ensures { (back : List SomeNamed) → Nests back self.now → result ≡ range_in back 0 }
     {
-        self.open_ranges.top()
+        match self.open_ranges.top() {
+            Some(place) => Some(place as usize),
+            None => None,
+        }
     }
 }
