@@ -11,6 +11,8 @@ pub mod RelocLemmas
 pub mod PlacedLemmas
 pub mod FirstLemmas
 pub mod AcceptedLemmas
+pub mod KnownLemmas
+pub mod GatheringLemmas
 pub mod MakingLemmas
 pub mod GroupLemmas
 pub mod ExactLemmas

@@ -19,7 +19,7 @@ use Rattle.stab_units.proofs.FirstLemmas.{first_of_all}
 use Rattle.bincl_match.specs.declared.range.RangeOf.{RangeOf}
 use Rattle.bincl_match.specs.declared.range.Grouping.{Grouping}
 use Rattle.bincl_match.specs.Ranges.{AreRanges}
-use Rattle.bincl_match.specs.Instances.{IsAlone, IsTaken, IsInstance}
+use Rattle.bincl_match.specs.Instances.{IsTaken, IsInstance}
 use Rattle.header_merge.specs.Merged.{merged}
 use Rattle.aout_link.specs.Sources.{Source, HasUnits}
 use Rattle.aout_link.specs.Moves.{all_moves}

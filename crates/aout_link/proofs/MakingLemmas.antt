@@ -1,8 +1,8 @@
 -- What placing keeps: lengths of segments, kinds and names of entries. So what is placed of objects can be made into one.
 use Rattle.std.proofs.Common.{◌≡◌, ℕ, ◌+◌, ◌-◌, ◌≤◌, Bool, true, false, cond, List, [], ◌∷◌, ◌++◌, length, map, take, drop, Option, Some, None, refl, sym, ap, subst, ◌∙◌, arith}
-use Rattle.std.specs.Prelude.{nat_le, ◌||◌, ◌==◌, bytes_eq, unwrap_or, filter}
+use Rattle.std.specs.Prelude.{nat_le, ◌==◌, unwrap_or}
 use Rattle.std.specs.List.{sum_by}
-use Rattle.std.proofs.lemmas.Bool.{leb-true, eqb-true}
+use Rattle.std.proofs.lemmas.Bool.{leb-true}
 use Rattle.std.proofs.lemmas.List.{length-append, length-drop, length-take-le, length-replicate, map-append}
 use Rattle.std.proofs.lemmas.List.Sums.{sum_by-cons}
 use Rattle.std.specs.Prelude.{◌≢◌, slice_get, All, IfOk, Result, Ok, Err}
@@ -34,11 +34,11 @@ use Rattle.reloc.specs.Sums.{bytes_in, bits_in, sum_fits, field_sum, applied}
 use Rattle.aout_object.specs.Decoding.{fault_or}
 use Rattle.aout_object.specs.Objects.{is_accepted_kind}
 use Rattle.aout_link.specs.Making.{CanBeMade}
-use Rattle.aout_link.specs.Moves.{padded, text_size, data_size, totals_of, all_moves, fronts}
+use Rattle.aout_link.specs.Moves.{padded, text_size, data_size, totals_of, all_moves}
 use Rattle.aout_link.specs.Placing.{Frame, text_frame, data_frame, IsPlaced, placed_entry, placed_all, amount, relocated, zeros_for, text_part, data_part, texts, datas}
 use Rattle.aout_link.specs.Refusals.{fault_in, twice_in, empty_fault, order_fault, machine_fault, address_fault, list_fault, undefined_in, check_in, is_lawful, reloc_checks, relocs_fault, text_fault, data_fault, object_fault, relocs_in}
 use Rattle.aout_link.specs.Sources.{Source, HasAcceptedKind}
-use Rattle.aout_link.specs.Tables.{known_by, known_of, definitions, common_at, placed_commons, common_sizes, commons_total, bss_end, names_table, entries_of, is_definition, moved_value, moved_all}
+use Rattle.aout_link.specs.Tables.{known_by, common_sizes, commons_total, names_table, entries_of, moved_value}
 use Rattle.aout_link.specs.declared.moves.Moves.{Moves}
 use Rattle.aout_link.specs.declared.definitions.Known.{Known}
 use Rattle.std.specs.List.{AllByRecursion}
@@ -46,6 +46,7 @@ use Rattle.st_base.specs.declared.fault.TheConstants.{TOO_LARGE}
 use Rattle.aout_link.specs.declared.moves.Totals.{Totals}
 use Rattle.aout_link.specs.declared.placed.Placed.{Placed}
 use Rattle.st_base.specs.declared.sizes.TheConstants.{GREATEST_ADDRESS}
+use Rattle.aout_link.proofs.KnownLemmas.{HasKind, all_append, found_kind, table_kinds}
 use Rattle.aout_link.proofs.PlacedLemmas.{length-all_moves}
 
 -- ---- lengths
@@ -146,16 +147,11 @@ module _ (table : List (List ℕ × Known)) where
 
 -- ---- kinds stay accepted
 
--- what a name stands for has an accepted kind
-abbrev HasKnownKind : List ℕ × Known → Type 0
-HasKnownKind e = is_accepted_kind e.1.kind ≡ true
+-- an accepted kind
+abbrev IsAcceptedKind : ℕ → Type 0
+IsAcceptedKind kind = is_accepted_kind kind ≡ true
 
--- what holds of all items of two lists holds of both together
-pub all_append : {A : Type 0} (P : A → Type 0) (xs ys : List A) → AllByRecursion P xs → AllByRecursion P ys → AllByRecursion P (xs ++ ys)
-all_append P [] ys a b = b
-all_append P (x ∷ xs) ys a b = (a.0, all_append P xs ys a.1 b)
-
--- and of the first of two
+-- what holds of all items of two lists together holds of those of the first
 all_front : {A : Type 0} (P : A → Type 0) (xs ys : List A) → AllByRecursion P (xs ++ ys) → AllByRecursion P xs
 all_front P [] ys a = tt
 all_front P (x ∷ xs) ys a = (a.0, all_front P xs ys a.1)
@@ -165,65 +161,25 @@ all_behind : {A : Type 0} (P : A → Type 0) (xs ys : List A) → AllByRecursion
 all_behind P [] ys a = a
 all_behind P (x ∷ xs) ys a = all_behind P xs ys a.1
 
--- the kind of a definition is accepted
-definition_accepted : (kind : ℕ) → is_definition kind ≡ true → is_accepted_kind kind ≡ true
-definition_accepted kind e = by (kind == 3) (kind == 5) (kind == 7) (kind == 9) refl refl refl refl e
-  where
-    at : (n : ℕ) → kind == n ≡ true → is_accepted_kind n ≡ true → is_accepted_kind kind ≡ true
-    at n is a = ap is_accepted_kind (eqb-true kind n is) ∙ a
-
-    by : (a b c d : Bool) → kind == 3 ≡ a → kind == 5 ≡ b → kind == 7 ≡ c → kind == 9 ≡ d → (a || b || c || d) ≡ true → is_accepted_kind kind ≡ true
-    by true b c d p q r s h = at 3 p refl
-    by false true c d p q r s h = at 5 q refl
-    by false false true d p q r s h = at 7 r refl
-    by false false false true p q r s h = at 9 s refl
-    by false false false false p q r s h = absurd (let z : false ≡ true = h in cc)
-
--- so are those of all definitions
-definitions_accepted : (ns : List Named) → AllByRecursion HasKnownKind (definitions ns)
-definitions_accepted [] = tt
-definitions_accepted (n ∷ ns) = by (is_definition n.kind) refl (definitions_accepted ns)
-  where
-    by : (b : Bool) → is_definition n.kind ≡ b → AllByRecursion HasKnownKind (definitions ns) → AllByRecursion HasKnownKind (map known_of (cond b (n ∷ filter (λ x. is_definition x.kind) ns) (filter (λ x. is_definition x.kind) ns)))
-    by true is rest = (definition_accepted n.kind is, rest)
-    by false is rest = rest
-
--- and of commons
-commons_accepted : (start : ℕ) (before ss : List (List ℕ × ℕ)) → AllByRecursion HasKnownKind (map (λ p. (p.1.0, common_at start p.0)) (fronts before ss))
-commons_accepted start before [] = tt
-commons_accepted start before (e ∷ ss) = (refl, commons_accepted start (before ++ e ∷ []) ss)
-
--- and of all that names stand for
-table_accepted : (base : ℕ) (os : List Source) → AllByRecursion HasKnownKind (names_table base os)
-table_accepted base os =
-    all_append HasKnownKind (definitions (moved_all (all_moves base os) os)) (placed_commons (bss_end base os) (common_sizes os))
-    (definitions_accepted (moved_all (all_moves base os) os)) (commons_accepted (bss_end base os) [] (common_sizes os))
-
--- what a look-up finds has an accepted kind
-found_accepted : (table : List (List ℕ × Known)) (q : List ℕ) (other : Known) → AllByRecursion HasKnownKind table → is_accepted_kind other.kind ≡ true
-    → is_accepted_kind (unwrap_or (known_by q table) other).kind ≡ true
-found_accepted [] q other a o = o
-found_accepted (e ∷ es) q other a o = by (bytes_eq q e.0) (found_accepted es q other a.1 o)
-  where
-    by : (b : Bool) → is_accepted_kind (unwrap_or (known_by q es) other).kind ≡ true → is_accepted_kind (unwrap_or (cond b (Some e.1) (known_by q es)) other).kind ≡ true
-    by true rest = a.0
-    by false rest = rest
+-- all that names stand for has an accepted kind
+table_accepted : (base : ℕ) (os : List Source) → AllByRecursion (HasKind IsAcceptedKind) (names_table base os)
+table_accepted base os = table_kinds IsAcceptedKind refl refl refl refl base os
 
 -- a placed entry has one
-placed_accepted : (table : List (List ℕ × Known)) (m : Moves) (n : Named) → AllByRecursion HasKnownKind table → HasAcceptedKind n → HasAcceptedKind (placed_entry table m n)
+placed_accepted : (table : List (List ℕ × Known)) (m : Moves) (n : Named) → AllByRecursion (HasKind IsAcceptedKind) table → HasAcceptedKind n → HasAcceptedKind (placed_entry table m n)
 placed_accepted table m n a h = by (n.kind == 1)
   where
     by : (b : Bool) → is_accepted_kind (cond b (unwrap_or (known_by n.name table) (record { kind = n.kind; value = n.value })) (record { kind = n.kind; value = moved_value m n })).kind ≡ true
-    by true = found_accepted table n.name (record { kind = n.kind; value = n.value }) a h
+    by true = found_kind IsAcceptedKind table n.name (record { kind = n.kind; value = n.value }) a h
     by false = h
 
 -- so have those of an object
-own_accepted : (table : List (List ℕ × Known)) (m : Moves) (ns : List Named) → AllByRecursion HasKnownKind table → AllByRecursion HasAcceptedKind ns → AllByRecursion HasAcceptedKind (map (placed_entry table m) ns)
+own_accepted : (table : List (List ℕ × Known)) (m : Moves) (ns : List Named) → AllByRecursion (HasKind IsAcceptedKind) table → AllByRecursion HasAcceptedKind ns → AllByRecursion HasAcceptedKind (map (placed_entry table m) ns)
 own_accepted table m [] a h = tt
 own_accepted table m (n ∷ ns) a h = (placed_accepted table m n a h.0, own_accepted table m ns a h.1)
 
 -- and those of all objects
-all_accepted : (table : List (List ℕ × Known)) (ms : List Moves) (os : List Source) → AllByRecursion HasKnownKind table → AllByRecursion HasAcceptedKind (entries_of os)
+all_accepted : (table : List (List ℕ × Known)) (ms : List Moves) (os : List Source) → AllByRecursion (HasKind IsAcceptedKind) table → AllByRecursion HasAcceptedKind (entries_of os)
     → AllByRecursion HasAcceptedKind (placed_all table ms os)
 all_accepted table [] os a h = tt
 all_accepted table (m ∷ ms) [] a h = tt

@@ -13,13 +13,13 @@ use Rattle.aout_object.specs.Objects.{Contents}
 use Rattle.stab_units.specs.Changing.{Change, all_headers, changed_at, changed_from, is_kept_in, mark_changed, range_in}
 use Rattle.stab_units.specs.Marks.{is_header}
 use Rattle.bincl_match.specs.declared.range.Grouping.{Grouping}
-use Rattle.header_merge.specs.Merged.{change_of, merged}
+use Rattle.header_merge.specs.Merged.{change_of}
 use Rattle.aout_link.specs.Sources.{HasAcceptedKind}
 use Rattle.aout_link.specs.Making.{CanBeMade, size_fault}
 use Rattle.aout_link.specs.Refusals.{Refuses}
 use Rattle.aout_link.specs.Linking.{image_placed}
 use Rattle.aout_link.specs.declared.placed.Placed.{Placed}
-use Rattle.aout_link.proofs.MakingLemmas.{all_append}
+use Rattle.aout_link.proofs.KnownLemmas.{all_append}
 
 -- what holds of an entry and of its mark holds of what entries become
 module _ (P : Named → Type 0) (c : Change) (marks : (place : ℕ) (e : Named) → P e → P (mark_changed c place e)) where

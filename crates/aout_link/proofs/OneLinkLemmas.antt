@@ -1,5 +1,5 @@
 -- What linking comes to: what is placed of a list is one, so is the grouping of its ranges, and so are the fault of its size and the image.
-use Rattle.std.proofs.Common.{◌≡◌, ℕ, ◌+◌, ◌<◌, ◌^◌, ◌⊎◌, inl, inr, List, [], ◌∷◌, ◌++◌, length, map, Option, Some, None, refl, sym, ap, subst, ◌∙◌}
+use Rattle.std.proofs.Common.{◌≡◌, ℕ, ◌<◌, ◌^◌, ◌⊎◌, inl, inr, List, [], ◌∷◌, ◌++◌, length, Option, Some, None, refl, sym, ap, subst, ◌∙◌}
 use Rattle.std.specs.Prelude.{All}
 use Rattle.std.proofs.lemmas.List.{length-map}
 use Rattle.std.proofs.lemmas.List.Elements.{All-from_recursion, recursion_from_All}
@@ -9,20 +9,19 @@ use Rattle.st_base.specs.declared.fault.Fault.{Fault}
 use Rattle.st_base.specs.declared.fault.Refused.TheVariants as refused
 use Rattle.nlist_codec.specs.declared.named.Named.{Named}
 use Rattle.aout_object.specs.Making.{HasWholeName}
-use Rattle.aout_object.specs.Objects.{Contents, named_of}
+use Rattle.aout_object.specs.Objects.{Contents}
 use Rattle.aout_object.proofs.MakeLemmas.{named_of-made}
 use Rattle.stab_units.specs.Joining.{AreAlike}
-use Rattle.stab_units.specs.Outlines.{units_of}
-use Rattle.stab_units.specs.Worlds.{AreUnits, UnitsFault, strings_in}
+use Rattle.stab_units.specs.Worlds.{AreUnits, UnitsFault}
 use Rattle.stab_units.specs.declared.unit.Unit.{Unit}
 use Rattle.bincl_match.specs.declared.range.Grouping.{Grouping}
 use Rattle.bincl_match.specs.declared.range.RangeOf.{RangeOf}
 use Rattle.bincl_match.specs.Instances.{IsAlone}
 use Rattle.bincl_match.specs.Lawful.{IsLawful as LawfulRanges}
 use Rattle.bincl_match.specs.Matching.{AreClasses}
-use Rattle.bincl_match.specs.Ranges.{AreRanges, among, typed_ranges}
-use Rattle.bincl_match.specs.Reading.{AreTyped, units_with}
-use Rattle.bincl_match.proofs.LawLemmas.{ranges_are, told_few, typed_few}
+use Rattle.bincl_match.specs.Ranges.{AreFound, AreRanges, typed_ranges}
+use Rattle.bincl_match.proofs.FoundLemmas.{found_few, found_known}
+use Rattle.bincl_match.proofs.LawLemmas.{told_few}
 use Rattle.header_merge.specs.Merged.{merged}
 use Rattle.aout_link.specs.Linking.{KeepsWorld, IsGroupingOf, IsImageOf, IsLinked, IsPlanned, RefusesLink, image_end, image_placed, kept_from}
 use Rattle.aout_link.specs.Making.{CanBeMade, image_of, parts_of, size_fault}
@@ -114,11 +113,10 @@ module _
         ∙ ap (λ (n : ℕ). record { object = second.object; ranges = n; kept = image.kept }) count
         ∙ ap (λ (n : ℕ). record { object = second.object; ranges = second.ranges; kept = n }) kept
 
--- steps are counted in one way
+-- the number of steps is the old one
 pub count_one : (mode : Mode) (base : ℕ) (os : List Source) (old new other : ℕ) (image second : Image)
     → IsLinked mode base os old new image → IsLinked mode base os old other second → new ≡ other
-count_one mode base os old new other image second a b =
-    a.taken ∙ ap (λ (p : Placed). old + strings_in (image_end p) p.named) (placed_one base os a.placed b.placed a.planned.is_placed b.planned.is_placed) ∙ sym b.taken
+count_one mode base os old new other image second a b = a.taken ∙ sym b.taken
 
 -- ---- some image, or a fault
 
@@ -166,7 +164,7 @@ sized_some mode base os old p g (Some f) size planned can world = inr (f, inr (p
 sized_some mode base os old p g None size planned can world =
     let image = image_made p g can in
     inl (
-      old + strings_in (image_end p) p.named,
+      old,
       record { object = image_of (image_placed g p); ranges = length g.kept; kept = kept_from 0 g.kept },
       record {
         placed = p;
@@ -179,10 +177,16 @@ sized_some mode base os old p g None size planned can world =
       },
     )
 
+-- there are fewer ranges than so many, where there are fewer entries
+few_ranges : (n end : ℕ) (entries : List Named) (rs : List RangeOf) → AreRanges end entries rs → length entries < n → length rs < n
+few_ranges n end entries rs are few =
+    let typed : List RangeOf = typed_ranges 0 are.units are.items in
+    let found : AreFound end entries typed = record { units = are.units; are_units = are.are_units; items = are.items; are_items = are.are_items; are = refl } in
+    told_few n typed rs (found_few end n entries typed (found_known end entries typed found) few) are.are
+
 -- by the laws of ranges, of units and of groupings
 module _
     (some_ranges : (end : ℕ) (entries : List Named) → ((rs : List RangeOf) × AreRanges end entries rs) ⊎ ((f : Fault) × UnitsFault end entries f))
-    (one_ranges : (end : ℕ) (entries : List Named) (rs qs : List RangeOf) → AreRanges end entries rs → AreRanges end entries qs → rs ≡ qs)
     (no_fault : (end : ℕ) (entries : List Named) (units : List Unit) (f : Fault) → AreUnits end entries units → UnitsFault end entries f → ⊥)
     (lawful_ranges : (end : ℕ) (entries : List Named) (rs : List RangeOf) → AreRanges end entries rs → LawfulRanges rs)
     (some_alone : (ranges : List RangeOf) → length ranges < 2 ^ 32 → (g : Grouping) × IsAlone ranges g)
@@ -200,15 +204,6 @@ module _
         by_case : ((rs : List RangeOf) × AreRanges end entries rs) ⊎ ((f : Fault) × UnitsFault end entries f) → (rs : List RangeOf) × AreRanges end entries rs
         by_case (inl found) = found
         by_case (inr f) = absurd (no_fault end entries units.0 f.0 units.1 f.1)
-
-    -- fewer than so many, where the entries are
-    few_ranges : (n end : ℕ) (entries : List Named) (rs : List RangeOf) → AreRanges end entries rs → length entries < n → length rs < n
-    few_ranges n end entries rs are few =
-        let spans = units_of end entries in
-        let typed : List RangeOf = typed_ranges 0 (units_with spans are.items) are.items in
-        let read : AreTyped entries spans typed = record { items = are.items; read = are.are_items; are = refl } in
-        let told : AreRanges end entries (map (among typed) typed) = ranges_are end entries spans typed (map (among typed) typed) are.are_units.no_fault refl read refl in
-        told_few n typed rs (typed_few end n entries spans typed refl read few) (one_ranges end entries rs (map (among typed) typed) are told)
 
     -- fewer than 2 ^ 32 ranges have a grouping in each mode
     grouping_some : (mode : Mode) (ranges : List RangeOf) → LawfulRanges ranges → length ranges < 2 ^ 32 → (g : Grouping) × IsGroupingOf mode ranges g

@@ -10,3 +10,4 @@ pub mod Making
 pub mod Groups
 pub mod Linking
 pub mod Planning
+pub mod Gathering

@@ -1,12 +1,11 @@
 -- What linking makes of a list of objects: an image of what is placed of them, in which a header range is kept or has another one kept for
 -- it. After "The stabs debug format", on include files; which ranges are one, and the order of refusals, are this project's own.
-use Rattle.std.specs.Prelude.{◌≡◌, ◌⊎◌, ℕ, ◌+◌, ◌==◌, cond, ⊤, List, [], ◌∷◌, length, Some, None, Result, Ok, Err}
+use Rattle.std.specs.Prelude.{◌≡◌, ◌⊎◌, ℕ, ◌+◌, ◌==◌, cond, List, [], ◌∷◌, length, Some, None, Result, Ok, Err}
 use Rattle.st_base.specs.declared.fault.Fault.{Fault}
 use Rattle.st_base.specs.declared.fault.Refused.{Refused}
 use Rattle.st_base.specs.declared.fault.Refused.TheVariants as refused
 use Rattle.nlist_codec.specs.declared.named.Named.{Named}
 use Rattle.aout_object.specs.Objects.{named_of}
-use Rattle.stab_units.specs.Worlds.{strings_in}
 use Rattle.type_graph.specs.Worlds.{IsWorldOf}
 use Rattle.type_graph.specs.declared.world.World.{World}
 use Rattle.bincl_match.specs.Instances.{IsAlone}
@@ -76,8 +75,7 @@ KeepsWorld end entries others = (world : World) → IsWorldOf end entries world 
 
 -- ---- linking
 
--- an image of objects: it fits a file, its world is that of what is placed, and a step was taken for each string of the units of what is
--- placed
+-- an image of objects: it fits a file, its world is that of what is placed, and no step was taken, since no string is parsed
 pub record IsLinked (mode : Mode) (base : ℕ) (os : List Source) (old new : ℕ) (image : Image) : Type 0 where
   pub placed : Placed
   pub grouping : Grouping
@@ -85,7 +83,7 @@ pub record IsLinked (mode : Mode) (base : ℕ) (os : List Source) (old new : ℕ
   pub fits : size_fault (image_placed grouping placed) ≡ None
   pub is : IsImageOf placed grouping image
   pub world : KeepsWorld (image_end placed) placed.named (named_of image.object)
-  pub taken : new ≡ old + strings_in (image_end placed) placed.named
+  pub taken : new ≡ old
 
 -- objects are accepted, and their image has this fault of its size
 abbrev pub HasSizeFault : Mode → ℕ → List Source → Fault → Type 0

@@ -1,6 +1,6 @@
 -- The object that is made of what is placed. After a.out(5): the entry word is where text begins. That an image keeps no relocations is
 -- this project's own.
-use Rattle.std.specs.Prelude.{◌≢◌, ℕ, List, ◌+◌, ◌≤◌, [], ◌∷◌, length, Option}
+use Rattle.std.specs.Prelude.{◌≢◌, ◌+◌, ◌≤◌, [], ◌∷◌, length, Option}
 use Rattle.std.specs.List.{AllByRecursion}
 use Rattle.st_base.specs.Faults.{first_fault}
 use Rattle.st_base.specs.declared.fault.Fault.{Fault}

@@ -1,29 +1,32 @@
-ghost use Rattle.std.specs.Prelude.{◌≡◌, ◌+◌, ◌<◌, ◌^◌, List, length, Err, IfOk};
+ghost use Rattle.std.specs.Prelude.{◌≡◌, ◌+◌, ◌<◌, ◌^◌, length, Err, IfOk};
 ghost use Rattle.st_base.specs.declared.fault.Fault.{Fault};
 ghost use Rattle.st_base.specs.declared.fault.Refused.{Refused};
 ghost use Rattle.aout_object.specs.Objects.{named_of};
-ghost use Rattle.stab_units.specs.declared.unit.Unit.{Unit};
-ghost use Rattle.stab_units.specs.Worlds.{AreUnits, UnitsFault, strings_in};
-ghost use Rattle.aout_link.specs.Sources.{IsLawful, HasUnits};
+ghost use Rattle.stab_units.specs.Worlds.{UnitsFault, strings_in};
+ghost use Rattle.bincl_match.specs.Ranges.{AreFound};
+ghost use Rattle.aout_link.specs.Sources.{IsLawful, HasUnits, text_end};
 
 use aout_object::{Object, Parts};
+use bincl_match::{RangeOf, find_ranges};
 use nlist_codec::Named;
 use st_base::{List, Memory, Refused, Steps};
-use stab_units::units;
 use std::alloc::Global;
 use std::marker::Model;
 use std::sync::ledger::Ledger;
 
-/// An object to be linked, whose entries have units, with the list of its entries and their names, which is made once.
+/// An object to be linked, whose entries have units, with the list of its entries and their names and with its header ranges. Both are
+/// made once; linking parses no string of the object again.
 #[derive(Debug, Drop)]
 pub struct Checked {
     object: Object,
     named: List<Named>,
+    ranges: List<RangeOf>,
 }
 
 impl Model for Checked {
     ghost use Rattle.aout_object.specs.Objects.{named_of};
-    ghost use Rattle.aout_link.specs.Sources.{Source, IsLawful, HasUnits};
+    ghost use Rattle.bincl_match.specs.Ranges.{AreFound};
+    ghost use Rattle.aout_link.specs.Sources.{Source, IsLawful, text_end};
     ghost use Rattle.std.specs.Prelude.{◌≡◌};
 
     ghost Value = { Source };
@@ -31,7 +34,7 @@ impl Model for Checked {
     ghost view = { λ s. record { parts = s.object.parts; named = s.named } };
 
     ghost invariant = { λ s. (s.named ≡ named_of s.object) × IsLawful (record { parts = s.object.parts; named = s.named })
-        × HasUnits (record { parts = s.object.parts; named = s.named }) };
+        × AreFound (text_end (record { parts = s.object.parts; named = s.named })) s.named s.ranges };
 }
 
 // The entries of an object with their names. That an object has fewer than 2^32 of them is said by its parts.
@@ -45,30 +48,14 @@ fn entries_of(alloc: Global, object: &Object) -> Result<List<Named>, Memory>
     Ok(named)
 }
 
-// That the entries of an object have units: they are read once and dropped.
-fn check_units<L: Ledger>(
-    alloc: Global,
-    named: &List<Named>,
-    end: u32,
-    steps: &mut Steps<L>,
-) -> Result<(), Refused>
-    requires { length named.now < 2 ^ 32 }
-    ensures found { IfOk result (λ done. (units : List Unit) × AreUnits end named.now units) }
-    ensures refused { (f : Fault) → result ≡ Err (Refused.At f) → UnitsFault end named.now f }
-    ensures ticks { IfOk result (λ done. steps.new ≡ steps.old + strings_in end named.now) }
-{
-    match units(alloc, named, end, steps) {
-        Ok(_) => Ok(()),
-        Err(why) => Err(why),
-    }
-}
-
 impl Checked {
-    /// The object with its entries named, whose entries have units.
+    /// The object with its entries named, whose entries have units, and with its header ranges, as `find_ranges` finds them.
     ///
     /// Refused with the fault of the outline of its entries, else with the fault of the first string that spells no symbol, as by
-    /// `units`; the object is dropped then. One step is taken for each string that is parsed. Takes memory for the entries with their
-    /// names, and for the units while they are read; out of memory is an answer of its own. After "The stabs debug format".
+    /// `units`; the object is dropped then. Each string is parsed once, which takes a step, and linking parses none. What is kept is
+    /// the entries with their names and the ranges: of each symbol of a header its shape, which is about as long as its string, and the
+    /// files of its pairs. Takes memory for these, and for one unit at a time while it is read; out of memory is an answer of its own.
+    /// After "The stabs debug format".
     pub fn of<L: Ledger>(
         alloc: Global,
         object: Object,
@@ -83,8 +70,12 @@ impl Checked {
         let Ok(named) = entries_of(alloc, &object) else {
             return Err(Refused::Memory);
         };
-        match check_units(alloc, &named, object.text_end(), steps) {
-            Ok(()) => Ok(Checked { object, named }),
+        match find_ranges(alloc, &named, object.text_end(), steps) {
+            Ok(ranges) => Ok(Checked {
+                object,
+                named,
+                ranges,
+            }),
             Err(why) => Err(why),
         }
     }
@@ -104,6 +95,14 @@ impl Checked {
         &self.named
     }
 
+    /// The header ranges of the object, as they were found when it was checked: unit by unit, and in a unit by the numbers of the files.
+    /// Each is a candidate as far as its own entries go, whatever other ranges are like it. Takes no memory.
+    pub fn ranges(&self) -> &List<RangeOf>
+        ensures { AreFound (text_end self.now) self.now.named result.now }
+    {
+        &self.ranges
+    }
+
     /// The segments of the object and their relocations.
     pub fn parts(&self) -> &Parts
         ensures value { result.now ≡ self.now.parts }
@@ -111,6 +110,7 @@ impl Checked {
         ensures units { HasUnits self.now }
     {
         let _named = &self.named;
+        let _ranges = &self.ranges;
         self.object.parts()
     }
 }

@@ -61,8 +61,8 @@ pub fn group_laws()
     ensures sizes { (os : List SourceValue) → padded (totals_of os).text ≡ (totals_of os).text }
 {}
 
-/// A list of objects that have units, with fewer than 2^32 entries together, either has exactly one image, for which one number of steps
-/// is taken, or has exactly one fault that it is refused for. Out of memory is a refusal of any list.
+/// A list of objects that have units, with fewer than 2^32 entries together, either has exactly one image, for which no step is taken, or
+/// has exactly one fault that it is refused for. Out of memory is a refusal of any list.
 pub fn one_link()
     ensures some { (mode : Mode) (base : ℕ) (os : List SourceValue) (old : ℕ) → All IsLawful os → All HasUnits os → length (entries_of os) < 2 ^ 32
         → ((new : ℕ) × (image : ImageValue) × IsLinked mode base os old new image) ⊎ ((f : FaultValue) × RefusesLink mode base os (refused.At f)) }

@@ -11,6 +11,7 @@
 mod checked;
 mod commons;
 mod definitions;
+mod gathering;
 mod image;
 mod laws;
 mod linking;

@@ -1,6 +1,6 @@
-//! Linking, pass by pass: objects are placed; the header ranges of the placed entries are found, and grouped as the mode says; the entries
-//! of the image are made of the placed ones, a range staying where it is kept, and leaving an N_EXCL for the range that is kept for it
-//! where it is not; and the object is made.
+//! Linking, pass by pass: objects are placed; the header ranges of the placed entries are made of those that the objects keep, so that no
+//! string is parsed, and grouped as the mode says; the entries of the image are made of the placed ones, a range staying where it is kept,
+//! and leaving an N_EXCL for the range that is kept for it where it is not; and the object is made.
 //!
 //! ```text
 //! a.c        N_SO                 a.c        N_SO
@@ -13,28 +13,29 @@
 //!            N_EINCL
 //! ```
 
-ghost use Rattle.std.specs.Prelude.{◌≡◌, ◌+◌, ◌<◌, ◌^◌, ℕ, List, length, All, Err, IfOk, Some};
+ghost use Rattle.std.specs.Prelude.{◌≡◌, ◌<◌, ◌^◌, length, Err, IfOk, Some};
 ghost use Rattle.st_base.specs.declared.fault.Fault.{Fault};
 ghost use Rattle.st_base.specs.declared.fault.Refused.{Refused};
-ghost use Rattle.stab_units.specs.Worlds.{AreUnits, strings_in};
-ghost use Rattle.stab_units.specs.declared.unit.Unit.{Unit};
 ghost use Rattle.bincl_match.specs.Lawful.{IsLawful};
-ghost use Rattle.aout_link.specs.Sources.{HasUnits};
-ghost use Rattle.aout_link.specs.Refusals.{list_fault, PlacesTo};
+ghost use Rattle.bincl_match.specs.Ranges.{AreFoundButUnits};
+ghost use Rattle.aout_link.specs.Placing.{IsPlaced};
+ghost use Rattle.aout_link.specs.Refusals.{list_fault};
 ghost use Rattle.aout_link.specs.Making.{CanBeMade};
 ghost use Rattle.header_merge.specs.Merged.{merged};
 ghost use Rattle.aout_link.specs.Linking.{KeepsWorld, IsGroupingOf, IsPlanned, Links, image_end, image_placed, kept_from};
 ghost use Rattle.aout_link.specs.Planning.{IsGrouped, Makes};
 
 use crate::checked::Checked;
+use crate::gathering::gather;
 use crate::image::make_image;
 use crate::placed::{Placed, place_objects};
 use aout_object::Object;
-use bincl_match::{Grouping, RangeOf, alone, classes, merging_laws, one_ranges, ranges};
+use bincl_match::{
+    Grouping, RangeOf, alone, classes, found_laws, join_ranges, merging_laws, one_ranges,
+};
 use header_merge::{merge_headers, merged_world};
 use nlist_codec::Named;
 use st_base::{List, Memory, Refused, Steps};
-use stab_units::{joined_law, one_units};
 use std::alloc::Global;
 use std::sync::ledger::Ledger;
 
@@ -68,29 +69,6 @@ struct Plan {
 
 // ---- what is placed, and its ranges
 
-// What holds of each object, which a proof sees at a call.
-fn have_units(objects: &[Checked])
-    ensures { All HasUnits objects.now }
-{
-    for object in objects {
-        let _parts = object.parts();
-    }
-}
-
-// What is placed of objects; its entries have units.
-fn place(alloc: Global, objects: &[Checked], base: u32) -> Result<Placed, Refused>
-    ensures placed { PlacesTo (list_fault base objects.now) base objects.now result }
-    ensures lawful { IfOk result CanBeMade }
-    ensures units { IfOk result (λ p. (end : ℕ) → (units : List Unit) × AreUnits end p.named units) }
-{
-    joined_law();
-    have_units(objects);
-    match place_objects(alloc, objects, base) {
-        Ok(placed) => Ok(placed),
-        Err(why) => Err(why),
-    }
-}
-
 // The grouping of ranges that the mode makes.
 fn group_ranges(alloc: Global, found: &List<RangeOf>, mode: Mode) -> Result<Grouping, Memory>
     requires lawful { IsLawful found.now }
@@ -110,62 +88,72 @@ fn group_ranges(alloc: Global, found: &List<RangeOf>, mode: Mode) -> Result<Grou
     }
 }
 
-// The grouping of the ranges of entries that have units.
-fn group<L: Ledger>(
+// The grouping of the ranges of entries, of which they are known but for the numbers of their units.
+fn group(
     alloc: Global,
     entries: &List<Named>,
     end: u32,
+    found: List<RangeOf>,
     mode: Mode,
-    steps: &mut Steps<L>,
-) -> Result<Grouping, Refused>
+) -> Result<Grouping, Memory>
     requires few { length entries.now < 2 ^ 32 }
-    requires units { (units : List Unit) × AreUnits end entries.now units }
+    requires found { AreFoundButUnits end entries.now found }
     ensures grouped { IfOk result (IsGrouped mode end entries.now) }
     ensures few { IfOk result (λ grouping. length grouping.kept < 2 ^ 32) }
     ensures world { IfOk result (λ grouping. KeepsWorld end entries.now (merged grouping entries.now)) }
-    ensures refused { (f : Fault) → result ≡ Err (Refused.At f) → ⊥ }
-    ensures ticks { IfOk result (λ grouping. steps.new ≡ steps.old + strings_in end entries.now) }
 {
-    one_units();
     one_ranges();
     merging_laws();
     merged_world();
-    match ranges(alloc, entries, end, steps) {
-        Ok(found) => match group_ranges(alloc, &found, mode) {
-            Ok(grouping) => Ok(grouping),
-            Err(_) => Err(Refused::Memory),
-        },
+    let ranges = join_ranges(alloc, entries, end, found)?;
+    match group_ranges(alloc, &ranges, mode) {
+        Ok(grouping) => Ok(grouping),
+        Err(why) => Err(why),
+    }
+}
+
+// The grouping of the ranges of what is placed of objects.
+fn group_placed(
+    alloc: Global,
+    objects: &[Checked],
+    placed: &Placed,
+    base: u32,
+    mode: Mode,
+) -> Result<Grouping, Memory>
+    requires placed { IsPlaced base objects.now placed.now }
+    requires can { CanBeMade placed.now }
+    ensures grouped { IfOk result (IsGrouped mode (image_end placed.now) placed.now.named) }
+    ensures few { IfOk result (λ grouping. length grouping.kept < 2 ^ 32) }
+    ensures world { IfOk result (λ grouping. KeepsWorld (image_end placed.now) placed.now.named (merged grouping placed.now.named)) }
+{
+    found_laws();
+    // ranges are numbered by words
+    if placed.named.len() > u32::MAX as usize {
+        return Err(Memory);
+    }
+    let found = gather(alloc, objects)?;
+    let end = placed.entry + placed.text.bytes().len() as u32;
+    match group(alloc, &placed.named, end, found, mode) {
+        Ok(grouping) => Ok(grouping),
         Err(why) => Err(why),
     }
 }
 
 // What is placed of objects, and the grouping of its ranges.
-fn make_plan<L: Ledger>(
-    alloc: Global,
-    objects: &[Checked],
-    base: u32,
-    mode: Mode,
-    steps: &mut Steps<L>,
-) -> Result<Plan, Refused>
+fn make_plan(alloc: Global, objects: &[Checked], base: u32, mode: Mode) -> Result<Plan, Refused>
     ensures planned { IfOk result (λ plan. IsPlanned mode base objects.now plan.placed plan.grouping) }
     ensures can { IfOk result (λ plan. CanBeMade plan.placed) }
     ensures few { IfOk result (λ plan. length plan.grouping.kept < 2 ^ 32) }
     ensures world { IfOk result (λ plan. KeepsWorld (image_end plan.placed) plan.placed.named (merged plan.grouping plan.placed.named)) }
     ensures refused { (f : Fault) → result ≡ Err (Refused.At f) → list_fault base objects.now ≡ Some f }
-    ensures ticks { IfOk result (λ plan. steps.new ≡ steps.old + strings_in (image_end plan.placed) plan.placed.named) }
 {
-    let placed = match place(alloc, objects, base) {
+    let placed = match place_objects(alloc, objects, base) {
         Ok(placed) => placed,
         Err(why) => return Err(why),
     };
-    // ranges are numbered by words
-    if placed.named.len() > u32::MAX as usize {
-        return Err(Refused::Memory);
-    }
-    let end = placed.entry + placed.text.bytes().len() as u32;
-    match group(alloc, &placed.named, end, mode, steps) {
+    match group_placed(alloc, objects, &placed, base, mode) {
         Ok(grouping) => Ok(Plan { placed, grouping }),
-        Err(why) => Err(why),
+        Err(_) => Err(Refused::Memory),
     }
 }
 
@@ -189,25 +177,9 @@ fn count_kept(kept: &[u32]) -> u32
 fn merge(alloc: Global, placed: Placed, grouping: &Grouping) -> Result<Placed, Memory>
     ensures { IfOk result (λ image. image ≡ image_placed grouping.now placed) }
 {
-    let Placed {
-        order,
-        machine,
-        entry,
-        text,
-        data_part,
-        bss,
-        named,
-    } = placed;
-    let named = merge_headers(alloc, named, grouping)?;
-    Ok(Placed {
-        order,
-        machine,
-        entry,
-        text,
-        data_part,
-        bss,
-        named,
-    })
+    let mut image = placed;
+    image.named = merge_headers(alloc, image.named, grouping)?;
+    Ok(image)
 }
 
 // The image of what is placed, whose ranges are grouped so.
@@ -240,10 +212,10 @@ fn make_merged(alloc: Global, placed: Placed, grouping: &Grouping) -> Result<Ima
 /// `TOO_LARGE` with place 4,294,967,295, and relocation by relocation `OUTSIDE`, `SYMBOL` and `OVERFLOW`. An accepted list is refused with
 /// `TOO_LARGE` and place 134,217,728 where the image's file would have more bytes. Stabs give no refusal, since the objects have units.
 ///
-/// The sources are read twice in all: once by `Checked::of`, and here once more for the ranges, which takes a step for each string that
-/// is parsed. Takes memory for the placed segments and entries, for the ranges, for one unit at a time, and for the entries of the image
-/// and the image; out of memory is an answer of its own, and that of 2^32 placed entries or more. After a.out(5) and "The stabs debug
-/// format".
+/// No string is parsed, and no step is taken: `Checked::of` has read each string and kept the ranges of its object. Copies of these, one
+/// behind the other, are the ranges of the placed entries. Takes memory for the placed segments and entries, for the copies and the
+/// ranges, and for the entries of the image and the image; out of memory is an answer of its own, and that of 2^32 placed entries or
+/// more. After a.out(5) and "The stabs debug format".
 pub fn link<L: Ledger>(
     alloc: Global,
     objects: &List<Checked>,
@@ -253,7 +225,7 @@ pub fn link<L: Ledger>(
 ) -> Result<Image, Refused>
     ensures { Links mode base objects.now steps.old steps.new result }
 {
-    let Plan { placed, grouping } = match make_plan(alloc, objects.items(), base, mode, steps) {
+    let Plan { placed, grouping } = match make_plan(alloc, objects.items(), base, mode) {
         Ok(plan) => plan,
         Err(why) => return Err(why),
     };

@@ -5,7 +5,7 @@ use Rattle.aout_link.proofs.laws.one_link.Goals as goal
 -- ranges come from units, and a grouping from ranges
 pub returns-clause-some : goal.returns-clause-some
 returns-clause-some c =
-    image_some c.one_ranges.ensures.some c.one_ranges.ensures.one c.one_units.ensures.not_both c.one_ranges.ensures.lawful c.one_alone.ensures.some c.one_classes.ensures.some
+    image_some c.one_ranges.ensures.some c.one_units.ensures.not_both c.one_ranges.ensures.lawful c.one_alone.ensures.some c.one_classes.ensures.some
     c.joined_law.ensures.joined c.joined_law.ensures.none c.joined_law.ensures.alike
     (world_kept c.one_ranges.ensures.lawful c.merging_laws.ensures.alone c.merging_laws.ensures.classes c.merged_world.ensures.world)
 

@@ -1,4 +1,4 @@
-use Rattle.std.proofs.Common.{List, sym, subst}
+use Rattle.std.proofs.Common.{List, refl, sym, subst}
 use Rattle.nlist_codec.specs.declared.named.Named.{Named}
 use Rattle.aout_link.specs.Sources.{Source}
 use Rattle.aout_link.specs.Linking.{IsPlanned, KeepsWorld, image_end}
@@ -16,5 +16,5 @@ returns-in-Ok-make_merged g c =
       fits = made.0;
       is = made.1;
       world = subst (λ (es : List Named). KeepsWorld (image_end placed) placed.named es) (sym made.1.named) c.in-Ok.ensures.world;
-      taken = c.in-Ok.ensures.ticks;
+      taken = refl;
     }
