@@ -1,24 +1,23 @@
 -- The sentence of linking, from what a run promises: an accepted list has an outcome that is done, and an outcome that is done stores the
 -- file of an image; and the sentence of asking, likewise.
-use Rattle.std.proofs.Common.{◌≡◌, ◌≢◌, ◌⊎◌, inl, inr, ℕ, ◌≤◌, List, Option, Some, None, refl, sym, ap, subst, ◌∙◌, arith}
+use Rattle.std.proofs.Common.{◌≡◌, ◌≢◌, ◌⊎◌, inl, inr, ℕ, List, Option, Some, sym, ap, subst, ◌∙◌}
 use Rattle.std.proofs.lemmas.Bool.{cases_eq}
-use Rattle.std.specs.FinMap.{insert}
 use Rattle.outside.specs.Causes.{Contents, Rose}
 use Rattle.query_text.specs.declared.query.Query.{Query}
 use Rattle.aout_link.specs.declared.linking.Mode.{Mode}
 use Rattle.aout_link.specs.declared.linking.Mode.TheVariants.{Merge}
-use Rattle.stabs_tool.specs.declared.command.Asked.{Asked}
-use Rattle.stabs_tool.specs.declared.command.Asked.TheVariants as asks
-use Rattle.stabs_tool.specs.declared.command.Command.TheVariants as commands
-use Rattle.stabs_tool.specs.declared.outcome.Content.{Content}
-use Rattle.stabs_tool.specs.declared.outcome.Outcome.{Outcome}
-use Rattle.stabs_tool.specs.declared.outcome.TheConstants.{DONE, READ_FAULT, WRITE_FAULT, NO_MEMORY}
-use Rattle.stabs_tool.specs.Outcomes.{contents_after}
-use Rattle.stabs_tool.specs.Causes.{FilesSeen}
-use Rattle.stabs_tool.specs.Commands.{asked}
-use Rattle.stabs_tool.specs.Replies.{Means, IsOutcome}
+use Rattle.command_line.specs.declared.command.Asked.{Asked}
+use Rattle.command_line.specs.declared.command.Asked.TheVariants as asks
+use Rattle.command_line.specs.declared.command.Command.TheVariants as commands
+use Rattle.file_commands.specs.declared.outcome.Content.{Content}
+use Rattle.file_commands.specs.declared.outcome.Outcome.{Outcome}
+use Rattle.file_commands.specs.declared.outcome.TheConstants.{DONE, READ_FAULT, WRITE_FAULT, NO_MEMORY}
+use Rattle.file_commands.specs.Outcomes.{contents_after}
+use Rattle.file_commands.specs.Causes.{FilesSeen}
+use Rattle.file_commands.specs.Replies.{Means, IsOutcome}
 use Rattle.stabs_tool.specs.Promise.{Promise}
-use Rattle.stabs_tool.specs.Headline.{IsAcceptedList, IsImageFile, StoresImage, IsAskedOf, TellsImage, AsksToLink, AsksOfList, IsStopped, Headline}
+use Rattle.file_commands.specs.ListImages.{IsAcceptedList, IsImageFile, IsAskedOf}
+use Rattle.stabs_tool.specs.Headline.{StoresImage, TellsImage, AsksToLink, AsksOfList, IsStopped, Headline}
 
 -- a status that is done is none of these
 not_read : (result : ℕ) → result ≡ DONE → result ≢ READ_FAULT

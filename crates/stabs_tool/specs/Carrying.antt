@@ -6,11 +6,11 @@ use Rattle.outside.specs.declared.files.Stored.{Stored}
 use Rattle.outside.specs.declared.files.Stored.TheVariants as stored
 use Rattle.outside.specs.declared.sink.Put.{Put}
 use Rattle.outside.specs.declared.sink.Put.TheVariants as put
-use Rattle.stabs_tool.specs.declared.outcome.Content.{Content}
-use Rattle.stabs_tool.specs.declared.outcome.Outcome.{Outcome}
-use Rattle.stabs_tool.specs.declared.outcome.TheConstants.{WRITE_FAULT, NO_MEMORY}
-use Rattle.stabs_tool.specs.Outcomes.{write_fault_text}
-use Rattle.stabs_tool.specs.Causes.{FilesSeen}
+use Rattle.file_commands.specs.declared.outcome.Content.{Content}
+use Rattle.file_commands.specs.declared.outcome.Outcome.{Outcome}
+use Rattle.file_commands.specs.declared.outcome.TheConstants.{WRITE_FAULT, NO_MEMORY}
+use Rattle.file_commands.specs.Outcomes.{write_fault_text}
+use Rattle.file_commands.specs.Causes.{FilesSeen}
 
 -- the status behind a put that answers so
 abbrev pub status_after : ℕ → Put → ℕ

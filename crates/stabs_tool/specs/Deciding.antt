@@ -1,10 +1,10 @@
 -- What is known of an outcome before it is carried out. This is this project's own, and speaks of how the program works.
 use Rattle.std.specs.Prelude.{◌≡◌, ◌≢◌, ℕ, List, Some, None, true, IfSome}
 use Rattle.outside.specs.Causes.{Contents, Rose}
-use Rattle.stabs_tool.specs.declared.outcome.Outcome.{Outcome}
-use Rattle.stabs_tool.specs.declared.outcome.TheConstants.{DONE, USAGE, ABSENT, READ_FAULT, WRITE_FAULT, NO_MEMORY}
-use Rattle.stabs_tool.specs.Outcomes.{usage, absent, read_fault, is_status}
-use Rattle.stabs_tool.specs.Causes.{FilesSeen, Lacks}
+use Rattle.file_commands.specs.declared.outcome.Outcome.{Outcome}
+use Rattle.file_commands.specs.declared.outcome.TheConstants.{DONE, USAGE, ABSENT, READ_FAULT, WRITE_FAULT, NO_MEMORY}
+use Rattle.file_commands.specs.Outcomes.{usage, absent, read_fault, is_status}
+use Rattle.file_commands.specs.Causes.{FilesSeen, Lacks}
 
 -- the outcome o was decided on, the files being f before it and g after it; `Means`, `Reads`, `Writes` and `Wrong` are as in `Promise`
 pub record Decided (Means : Contents → Outcome → Type 0) (Reads Writes : List ℕ → Type 0) (Wrong : ℕ → Type 0) (f g : FilesSeen) (o : Outcome) : Type 0 where

@@ -1,14 +1,3 @@
-pub mod Words
-pub mod Commands
-pub mod Outcomes
-pub mod Causes
-pub mod Inputs
-pub mod Dump
-pub mod Checking
-pub mod Objects
-pub mod Linking
-pub mod Asking
-pub mod Replies
 pub mod Carrying
 pub mod Deciding
 pub mod Promise

@@ -1,10 +1,10 @@
 //! Carrying out an outcome, whatever the command: what is to be stored is stored, and then all is printed at once.
 
 ghost use Rattle.std.specs.Prelude.{◌≡◌, codes};
-ghost use Rattle.stabs_tool.specs.Causes.{seen};
+ghost use Rattle.file_commands.specs.Causes.{seen};
 ghost use Rattle.stabs_tool.specs.Carrying.{Prints, Carried, Keeps};
 
-use crate::outcome::{Content, NO_MEMORY, Outcome, WRITE_FAULT};
+use file_commands::{Content, NO_MEMORY, Outcome, WRITE_FAULT};
 use outside::{Files, Put, Sink, Stored};
 use std::alloc::Global;
 

@@ -1,16 +1,14 @@
 //! What the words come to, before anything is stored or printed.
 
 ghost use Rattle.std.specs.Prelude.{◌≡◌, ◌≤◌, IfOk};
-ghost use Rattle.stabs_tool.specs.Causes.{seen};
-ghost use Rattle.stabs_tool.specs.Commands.{IsRead, IsWritten, IsWrong};
-ghost use Rattle.stabs_tool.specs.Commands as commands;
+ghost use Rattle.file_commands.specs.Causes.{seen};
+ghost use Rattle.command_line.specs.Commands.{IsRead, IsWritten, IsWrong};
+ghost use Rattle.command_line.specs.Commands as commands;
 ghost use Rattle.stabs_tool.specs.Deciding.{Decided};
-ghost use Rattle.stabs_tool.specs.Replies.{Means};
+ghost use Rattle.file_commands.specs.Replies.{Means};
 
-use crate::answer::reply;
-use crate::command::{Asked, Command, inputs_of, most_of, read_words};
-use crate::inputs::load_all;
-use crate::outcome::{Outcome, usage};
+use command_line::{Asked, Command, inputs_of, most_of, read_words};
+use file_commands::{Outcome, load_all, reply, usage};
 use outside::Files;
 use st_base::{FILE_LIMIT, List, Memory, Text};
 use std::alloc::Global;

@@ -1,70 +1,15 @@
-//! What the definitions determine: words have exactly one outcome, and over files and a sink that never fail it is carried out.
+//! What a run comes to over files and a sink that never fail.
 
-ghost use Rattle.std.specs.Prelude.{◌≡◌, ◌⊎◌, ℕ, List, Some, None};
-ghost use Rattle.outside.specs.Causes.{Contents};
-ghost use Rattle.query_text.specs.declared.query.Query.{Query};
-ghost use Rattle.aout_link.specs.declared.linking.Mode.{Mode};
-ghost use Rattle.aout_link.specs.declared.linking.Mode.TheVariants.{Merge};
-ghost use Rattle.stabs_tool.specs.declared.outcome.Outcome.{Outcome};
-ghost use Rattle.stabs_tool.specs.Causes.{seen};
-ghost use Rattle.stabs_tool.specs.Headline.{IsAcceptedList, IsImageFile, IsAskedOf};
+ghost use Rattle.std.specs.Prelude.{◌≡◌, ◌⊎◌, Some, None};
+ghost use Rattle.file_commands.specs.Causes.{seen};
 ghost use Rattle.stabs_tool.specs.Promise.{IsDone};
-ghost use Rattle.stabs_tool.specs.Replies.{AreBytes, IsOutcome, Means};
+ghost use Rattle.file_commands.specs.Replies.{IsOutcome};
 
-use crate::command::{Asked, Command};
-use crate::outcome::{DONE, NO_MEMORY};
 use crate::top::run;
-use aout_link::{accepted_laws, one_link};
-use aout_object::object_laws;
+use file_commands::NO_MEMORY;
 use outside::{SureFiles, SureSink};
-use query_text::{a_reply, one_reply};
 use st_base::{List, Text};
-use stab_units::one_units;
 use std::alloc::Global;
-use unit_index::one_expansion;
-
-/// Words have one outcome at most over files with the same contents.
-pub fn one_outcome()
-    ensures { (words : List (List ℕ)) (m : Contents) (o other : Outcome) → IsOutcome words m o → IsOutcome words m other → o ≡ other }
-{
-    object_laws();
-    one_units();
-    one_expansion();
-    one_reply();
-    one_link();
-}
-
-/// Words have an outcome over all contents that are bytes, as those of files are.
-pub fn an_outcome()
-    ensures { (words : List (List ℕ)) (m : Contents) → AreBytes m → (o : Outcome) × IsOutcome words m o }
-{
-    object_laws();
-    one_units();
-    one_expansion();
-    a_reply();
-    one_link();
-}
-
-/// An accepted list of objects has an image in either mode, and linking it is done, and so is asking a query of it. Where linking is done,
-/// what is stored is the file of an image, and every query on a file that holds its bytes is answered as on the world of the placed
-/// entries. Where asking is done, the line of the image is printed, and then the reply on that world.
-pub fn linking_laws()
-    ensures accepted { (mode : Mode) (base : ℕ) (out : List ℕ) (names : List (List ℕ)) (m : Contents) → IsAcceptedList mode base names m
-        → (o : Outcome) × Means (Asked.Command (Command.Link mode base out names)) m o × (o.status ≡ DONE) }
-    ensures stored { (mode : Mode) (base : ℕ) (out : List ℕ) (names : List (List ℕ)) (m : Contents) (o : Outcome)
-        → Means (Asked.Command (Command.Link mode base out names)) m o → o.status ≡ DONE
-        → (bytes : List ℕ) × IsImageFile mode base names m bytes × (o.stored ≡ Some (record { name = out; bytes = bytes })) }
-    ensures answered { (names : List (List ℕ)) (query : Query) (m : Contents) → IsAcceptedList Merge 0 names m
-        → (o : Outcome) × Means (Asked.Command (Command.Ask names query)) m o × (o.status ≡ DONE) }
-    ensures told { (names : List (List ℕ)) (query : Query) (m : Contents) (o : Outcome)
-        → Means (Asked.Command (Command.Ask names query)) m o → o.status ≡ DONE → IsAskedOf names query m o.text }
-{
-    object_laws();
-    one_expansion();
-    accepted_laws();
-    a_reply();
-    one_link();
-}
 
 /// A run over files and a sink that never fail: the outcome is carried out, unless out of memory.
 pub fn run_surely(

@@ -4,31 +4,19 @@
 //! promises is `specs/Promise.antt`, and the clause of `run`.
 #![tactic(auto)]
 
-mod answer;
 mod arguments;
-mod asking;
 mod carry;
-mod checking;
-mod command;
 mod decide;
-mod dump;
-mod inputs;
 mod laws;
-mod limits;
-mod linking;
-mod objects;
-mod outcome;
-mod reading;
 #[cfg(test)]
 mod table;
 #[cfg(test)]
 mod tests;
 mod top;
-mod words;
 
 use arguments::words_of;
-pub use laws::{an_outcome, linking_laws, one_outcome, run_surely};
-use outcome::NO_MEMORY;
+use file_commands::NO_MEMORY;
+pub use laws::run_surely;
 use outside::{DiskFiles, StreamSink};
 use std::process::ExitCode;
 pub use top::run;

@@ -1,4 +1,5 @@
-/// The rows of the program's test; `tests.rt` says how its lines are read. Expected lines are worked by hand.
+/// The rows of the program's test; `tests.rt` says how its lines are read. Expected lines are worked by hand; those of links and of headers
+/// that are merged came in part from a model of the rules that was written apart from the program.
 pub const ROWS: &[u8] = b"
 file a.o 07010000_00000000_00000000_00000000_24000000_00000000_00000000_00000000_040000006400000000000000_080000008000000000000000_320000008000000000000000_69000000_'a.c'00_'int:t(0,1)=r(0,1);-2147483648;2147483647;'00_'list:T(0,2)=s8val:(0,1),0,32;next:(0,3)=*(0,2),32,32;;'00
 

@@ -20,9 +20,9 @@
 //! - `ends STATUS`: the status, and the end of the row. `rows N`: so many rows there were.
 
 use crate::carry::carry_out;
-use crate::outcome::{Content, Outcome};
 use crate::table::ROWS;
 use crate::{run, run_surely};
+use file_commands::{Content, Outcome};
 use outside::{DiskFiles, Files, Loaded, MemoryFiles, MemorySink, StreamSink, SureFiles, SureSink};
 use st_base::{List, Text};
 use std::alloc::Global;

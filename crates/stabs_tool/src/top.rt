@@ -1,13 +1,12 @@
-ghost use Rattle.stabs_tool.specs.Causes.{seen};
-ghost use Rattle.stabs_tool.specs.Commands.{asked, IsRead, IsWritten, IsWrong};
+ghost use Rattle.file_commands.specs.Causes.{seen};
+ghost use Rattle.command_line.specs.Commands.{asked, IsRead, IsWritten, IsWrong};
 ghost use Rattle.stabs_tool.specs.Headline.{Headline};
 ghost use Rattle.stabs_tool.specs.Promise.{Promise};
-ghost use Rattle.stabs_tool.specs.Replies.{IsOutcome};
+ghost use Rattle.file_commands.specs.Replies.{IsOutcome};
 
 use crate::carry::carry_out;
 use crate::decide::decide;
-use crate::laws::{linking_laws, one_outcome};
-use crate::outcome::NO_MEMORY;
+use file_commands::{NO_MEMORY, linking_laws, one_outcome};
 use outside::{Files, Sink};
 use st_base::{List, Text};
 use std::alloc::Global;

@@ -1,0 +1,10 @@
+pub mod Outcomes
+pub mod Causes
+pub mod Inputs
+pub mod Dump
+pub mod Checking
+pub mod Objects
+pub mod Linking
+pub mod Asking
+pub mod Replies
+pub mod ListImages

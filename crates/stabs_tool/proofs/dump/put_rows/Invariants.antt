@@ -1,8 +1,0 @@
-use Rattle.std.proofs.Common.{◌≡◌, ◌++◌, ◌+◌, ◌-◌, ◌*◌, drop}
-use Rattle.stabs_tool.specs.Dump as spec
-use Rattle.stabs_tool.proofs.dump.put_rows.Given as goal
-
--- the rows so far and those still to come are all rows
-abbrev pub invariant-loop-row : goal.invariant-loop-row
-invariant-loop-row l =
-    l.out ++ spec.rows_from (l.row-end - l.row) (l.address + 16 * l.row) (drop (16 * l.row) l.bytes) ≡ l.initial.out ++ spec.rows_text l.address l.bytes

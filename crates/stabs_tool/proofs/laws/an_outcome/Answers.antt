@@ -1,5 +1,0 @@
-use Rattle.stabs_tool.proofs.ExistsLaws.{outcome_exists}
-use Rattle.stabs_tool.proofs.laws.an_outcome.Goals as goal
-
-pub returns : goal.returns
-returns c = outcome_exists c.one_units.ensures.some c.one_expansion.ensures.some c.object_laws.ensures.object_or_fault c.a_reply.ensures c.one_link.ensures.some

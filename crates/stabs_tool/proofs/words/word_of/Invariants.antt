@@ -1,7 +1,0 @@
-use Rattle.std.proofs.Common.{◌≡◌, drop}
-use Rattle.stabs_tool.specs.Words as spec
-use Rattle.stabs_tool.proofs.words.word_of.Given as goal
-
--- the operand is among the places and words from here on
-abbrev pub invariant-loop-at : goal.invariant-loop-at
-invariant-loop-at l = spec.word_of l.operand (drop l.at l.places) (drop l.at l.words) ≡ spec.word_of l.operand l.places l.words
