@@ -52,10 +52,10 @@ impl Checked {
     /// The object with its entries named, whose entries have units, and with its header ranges, as `find_ranges` finds them.
     ///
     /// Refused with the fault of the outline of its entries, else with the fault of the first string that spells no symbol, as by
-    /// `units`; the object is dropped then. Each string is parsed once, which takes a step, and linking parses none. What is kept is
-    /// the entries with their names and the ranges: of each symbol of a header its shape, which is about as long as its string, and the
-    /// files of its pairs. Takes memory for these, and for one unit at a time while it is read; out of memory is an answer of its own.
-    /// After "The stabs debug format".
+    /// `units`; the object is dropped then. Each string is parsed once here, which takes a step, and linking parses no string again. What
+    /// is kept is the entries with their names and the ranges: of each symbol of a header its shape, which is about as long as its string,
+    /// and the files of its pairs. Takes memory for these, and for one unit at a time while it is read; out of memory is an answer of its
+    /// own. After "The stabs debug format".
     pub fn of<L: Ledger>(
         alloc: Global,
         object: Object,
