@@ -4,15 +4,11 @@ use Rattle.std.specs.Prelude.{filter, ◌||◌, ◌==◌, bytes_eq, unwrap_or}
 use Rattle.std.specs.List.{AllByRecursion}
 use Rattle.std.proofs.lemmas.Bool.{eqb-true}
 use Rattle.nlist_codec.specs.declared.named.Named.{Named}
+use Rattle.header_merge.proofs.FrontLemmas.{all_append}
 use Rattle.aout_link.specs.Sources.{Source}
 use Rattle.aout_link.specs.Moves.{fronts, all_moves}
 use Rattle.aout_link.specs.Tables.{is_definition, known_of, known_by, definitions, common_at, placed_commons, common_sizes, bss_end, moved_all, names_table}
 use Rattle.aout_link.specs.declared.definitions.Known.{Known}
-
--- what holds of all items of two lists holds of both together
-pub all_append : {A : Type 0} (P : A → Type 0) (xs ys : List A) → AllByRecursion P xs → AllByRecursion P ys → AllByRecursion P (xs ++ ys)
-all_append P [] ys a b = b
-all_append P (x ∷ xs) ys a b = (a.0, all_append P xs ys a.1 b)
 
 -- the kind of what a name stands for is such a kind
 abbrev pub HasKind : (ℕ → Type 0) → List ℕ × Known → Type 0

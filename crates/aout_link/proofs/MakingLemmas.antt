@@ -19,6 +19,7 @@ use Rattle.aout_object.specs.Objects.{Contents}
 use Rattle.aout_object.specs.Decoding.{Answers}
 use Rattle.aout_object.specs.Making.{HasWholeName, kinds_checks, make_checks, made}
 use Rattle.aout_object.proofs.MakeLemmas.{make-size}
+use Rattle.header_merge.proofs.FrontLemmas.{all_append}
 use Rattle.aout_link.specs.Making.{parts_of, image_of, size_fault}
 use Rattle.aout_link.specs.Sources.{IsLawful}
 use Rattle.aout_link.specs.Tables.{names_of}
@@ -46,7 +47,7 @@ use Rattle.st_base.specs.declared.fault.TheConstants.{TOO_LARGE}
 use Rattle.aout_link.specs.declared.moves.Totals.{Totals}
 use Rattle.aout_link.specs.declared.placed.Placed.{Placed}
 use Rattle.st_base.specs.declared.sizes.TheConstants.{GREATEST_ADDRESS}
-use Rattle.aout_link.proofs.KnownLemmas.{HasKind, all_append, found_kind, table_kinds}
+use Rattle.aout_link.proofs.KnownLemmas.{HasKind, found_kind, table_kinds}
 use Rattle.aout_link.proofs.PlacedLemmas.{length-all_moves}
 
 -- ---- lengths
@@ -256,7 +257,7 @@ makeable base os (Err why) lawful h = tt
 -- ---- the image
 
 -- accepted kinds have no fault
-no_kind_fault : (place : ℕ) (ns : List Named) → AllByRecursion HasAcceptedKind ns → first_fault (kinds_checks place ns) ≡ None
+pub no_kind_fault : (place : ℕ) (ns : List Named) → AllByRecursion HasAcceptedKind ns → first_fault (kinds_checks place ns) ≡ None
 no_kind_fault place [] h = refl
 no_kind_fault place (n ∷ ns) h = ap (λ (b : Bool). cond b (first_fault (kinds_checks (place + 1) ns)) (Some (fault_at KIND place))) h.0 ∙ no_kind_fault (place + 1) ns h.1
 

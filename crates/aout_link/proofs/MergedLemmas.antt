@@ -1,4 +1,4 @@
--- Merging headers keeps names and accepted kinds, so that what can be made into an object still can.
+-- Merging headers keeps what holds of each entry and of its mark, so names and accepted kinds: what can be made into an object still can.
 use Rattle.std.proofs.Common.{◌≡◌, Bool, true, false, cond, List, [], ◌∷◌, refl, sym, ap, subst, ◌∙◌}
 use Rattle.std.specs.Prelude.{ℕ, ◌&&◌, ◌==◌, Err}
 use Rattle.std.specs.List.{AllByRecursion}
@@ -14,18 +14,18 @@ use Rattle.stab_units.specs.Changing.{Change, all_headers, changed_at, changed_f
 use Rattle.stab_units.specs.Marks.{is_header}
 use Rattle.bincl_match.specs.declared.range.Grouping.{Grouping}
 use Rattle.header_merge.specs.Merged.{change_of}
+use Rattle.header_merge.proofs.FrontLemmas.{all_append}
 use Rattle.aout_link.specs.Sources.{HasAcceptedKind}
 use Rattle.aout_link.specs.Making.{CanBeMade, size_fault}
 use Rattle.aout_link.specs.Refusals.{Refuses}
 use Rattle.aout_link.specs.Linking.{image_placed}
 use Rattle.aout_link.specs.declared.placed.Placed.{Placed}
-use Rattle.aout_link.proofs.KnownLemmas.{all_append}
 
 -- what holds of an entry and of its mark holds of what entries become
 module _ (P : Named → Type 0) (c : Change) (marks : (place : ℕ) (e : Named) → P e → P (mark_changed c place e)) where
   -- of what one entry becomes
-  all_at : (back : List Named) (e : Named) → P e → AllByRecursion P (changed_at c back e)
-  all_at back e h = by (is_header e.kind) (is_stab e.kind) (is_kept_in c (range_in back 0))
+  one_changed : (back : List Named) (e : Named) → P e → AllByRecursion P (changed_at c back e)
+  one_changed back e h = by (is_header e.kind) (is_stab e.kind) (is_kept_in c (range_in back 0))
     where
       by : (header stab kept : Bool) → AllByRecursion P (cond header (mark_changed c (all_headers back) e ∷ []) (cond stab (cond kept (e ∷ []) []) (e ∷ [])))
       by true stab kept = (marks (all_headers back) e h, tt)
@@ -34,9 +34,9 @@ module _ (P : Named → Type 0) (c : Change) (marks : (place : ℕ) (e : Named) 
       by false false kept = (h, tt)
 
   -- and of what all become
-  all_from : (back es : List Named) → AllByRecursion P es → AllByRecursion P (changed_from c back es)
-  all_from back [] h = tt
-  all_from back (e ∷ es) h = all_append P (changed_at c back e) (changed_from c (e ∷ back) es) (all_at back e h.0) (all_from (e ∷ back) es h.1)
+  pub all_changed : (back es : List Named) → AllByRecursion P es → AllByRecursion P (changed_from c back es)
+  all_changed back [] h = tt
+  all_changed back (e ∷ es) h = all_append P (changed_at c back e) (changed_from c (e ∷ back) es) (one_changed back e h.0) (all_changed (e ∷ back) es h.1)
 
 -- the mark of a header has an accepted kind
 mark_accepted : (c : Change) (place : ℕ) (e : Named) → HasAcceptedKind e → HasAcceptedKind (mark_changed c place e)
@@ -49,8 +49,8 @@ mark_accepted c place e h = by ((e.kind == N_BINCL) && c.kept place)
 -- what can be made into an object still can
 pub can_merged : (g : Grouping) (p : Placed) → CanBeMade p → CanBeMade (image_placed g p)
 can_merged g p can = record {
-  names = all_from HasWholeName (change_of g) (λ place e h. h) [] p.named can.names;
-  kinds = all_from HasAcceptedKind (change_of g) (mark_accepted (change_of g)) [] p.named can.kinds;
+  names = all_changed HasWholeName (change_of g) (λ place e h. h) [] p.named can.names;
+  kinds = all_changed HasAcceptedKind (change_of g) (mark_accepted (change_of g)) [] p.named can.kinds;
   addresses = can.addresses;
   machine = can.machine;
 }

@@ -1,6 +1,6 @@
 -- What files hold are bytes, and numbers that fit their fields; placing and merging keep them so. So the image of objects that files
 -- spell is an object that a file spells, and its file is bytes and within the limit of a file.
-use Rattle.std.proofs.Common.{◌≡◌, ℕ, zero, suc, ◌+◌, ◌*◌, ◌<◌, ◌≤◌, ◌^◌, ◌%◌, Bool, true, false, cond, List, [], ◌∷◌, ◌++◌, length, map, take, drop, get_or, Option, Some, None, inl, inr, refl, sym, ap, subst, ◌∙◌, arith, length-append}
+use Rattle.std.proofs.Common.{◌≡◌, ℕ, zero, suc, ◌+◌, ◌*◌, ◌<◌, ◌≤◌, ◌^◌, ◌%◌, Bool, true, false, cond, List, [], ◌∷◌, ◌++◌, length, map, take, drop, get_or, Option, Some, None, inl, inr, refl, sym, ap, subst, arith, length-append}
 use Rattle.std.specs.Prelude.{filter, fold, replicate, position, option_map, unwrap_or, bytes_eq, nat_le, nat_lt, slice_get, slice_index, if◌then◌else◌, ◌&&◌, ◌==◌}
 use Rattle.std.specs.List.{AllByRecursion, list_any, position_or_len}
 use Rattle.std.proofs.lemmas.Bool.{le-leb, leb-true}
@@ -9,7 +9,7 @@ use Rattle.std.proofs.lemmas.Option.{slice_get_within}
 use Rattle.st_base.specs.ByteOrder.{is_big}
 use Rattle.st_base.specs.Number.{IsBytes, bytes_of}
 use Rattle.st_base.specs.Faults.{fault_at, first_fault}
-use Rattle.st_base.specs.declared.fault.TheConstants.{KIND, TOO_LARGE}
+use Rattle.st_base.specs.declared.fault.TheConstants.{TOO_LARGE}
 use Rattle.st_base.specs.declared.sizes.TheConstants.{FILE_LIMIT, GREATEST_ADDRESS}
 use Rattle.st_base.proofs.BytesLemmas.{IsBytes-take, IsBytes-drop, IsBytes-append, IsBytes-bytes_of}
 use Rattle.aout_layout.specs.Headers.{header_bytes}
@@ -26,18 +26,17 @@ use Rattle.strtab.proofs.WordLemmas.{length-table_of}
 use Rattle.aout_object.specs.declared.parts.Parts.{Parts}
 use Rattle.aout_object.specs.Objects.{header_for, entries_bytes, file_of, relocs_bytes, ObjectSpells, name_of, all_named, named_of}
 use Rattle.aout_object.specs.Objects.{Contents as Object}
-use Rattle.aout_object.specs.Making.{HasWholeName, names_of, entries_for, size_check, kinds_checks}
+use Rattle.aout_object.specs.Making.{HasWholeName, names_of, entries_for, size_check}
 use Rattle.aout_object.proofs.MakeLemmas.{made-fits, length-file_of}
 use Rattle.stab_codes.specs.declared.code.TheConstants.{N_BINCL, N_EXCL}
-use Rattle.st_base.specs.Stabs.{is_stab}
-use Rattle.stab_units.specs.Changing.{Change, all_headers, changed_at, changed_from, is_kept_in, mark_changed, range_in}
-use Rattle.stab_units.specs.Marks.{is_header}
+use Rattle.stab_units.specs.Changing.{Change, mark_changed}
 use Rattle.bincl_match.specs.declared.range.Grouping.{Grouping}
 use Rattle.bincl_match.specs.declared.range.RangeOf.{RangeOf}
 use Rattle.bincl_match.specs.Instances.{IsInstance}
 use Rattle.bincl_match.specs.Matching.{AreClasses, InOneClass}
 use Rattle.header_merge.specs.Merged.{change_of}
-use Rattle.aout_link.specs.Sources.{Source, HasAcceptedKind, IsLawful}
+use Rattle.header_merge.proofs.FrontLemmas.{all_append}
+use Rattle.aout_link.specs.Sources.{Source, IsLawful}
 use Rattle.aout_link.specs.Linking.{IsGroupingOf, IsLinked, image_placed}
 use Rattle.aout_link.specs.Moves.{all_moves, fronts}
 use Rattle.aout_link.specs.Tables.{known_of, known_by, definitions, is_definition, moved_entry, moved_all, moved_value, common_at, placed_commons, common_sizes, bss_end, names_table}
@@ -49,8 +48,8 @@ use Rattle.aout_link.specs.declared.placed.Placed.{Placed}
 use Rattle.aout_link.specs.declared.linking.Image.{Image}
 use Rattle.aout_link.specs.declared.linking.Mode.{Mode}
 use Rattle.aout_link.specs.declared.linking.Mode.TheVariants.{Keep, Merge}
-use Rattle.aout_link.proofs.MergedLemmas.{can_merged}
-use Rattle.aout_link.proofs.MakingLemmas.{can_be_made}
+use Rattle.aout_link.proofs.MergedLemmas.{all_changed, can_merged}
+use Rattle.aout_link.proofs.MakingLemmas.{can_be_made, no_kind_fault}
 use Rattle.file_commands.specs.Objects.{Each, Spells, IsSource}
 
 -- ---- bytes
@@ -66,11 +65,6 @@ back_bytes (b ∷ xs) ys are = back_bytes xs ys are.1
 zero_bytes : (n : ℕ) → IsBytes (replicate n 0)
 zero_bytes zero = tt
 zero_bytes (suc n) = (omega arith, zero_bytes n)
-
--- what holds of two lists holds of both together
-all_append : {A : Type 0} (P : A → Type 0) (xs ys : List A) → AllByRecursion P xs → AllByRecursion P ys → AllByRecursion P (xs ++ ys)
-all_append P [] ys a b = b
-all_append P (x ∷ xs) ys a b = (a.0, all_append P xs ys a.1 b)
 
 -- ---- what a source holds
 
@@ -321,23 +315,9 @@ module _ (g : Grouping) (w : AreWords g.instance) where
       by true = record { kind = omega arith; other = h.other; desc = h.desc; value = word_at g.instance w place; name = h.name }
       by false = record { kind = omega arith; other = h.other; desc = h.desc; value = word_at g.instance w place; name = h.name }
 
-  fields_at : (back : List Named) (e : Named) → HasFields e → AllByRecursion HasFields (changed_at change back e)
-  fields_at back e h = by (is_header e.kind) (is_stab e.kind) (is_kept_in change (range_in back 0))
-    where
-      by : (header stab kept : Bool) → AllByRecursion HasFields (cond header (mark_changed change (all_headers back) e ∷ []) (cond stab (cond kept (e ∷ []) []) (e ∷ [])))
-      by true stab kept = (mark_fields (all_headers back) e h, tt)
-      by false true true = (h, tt)
-      by false true false = tt
-      by false false kept = (h, tt)
-
-  fields_from : (back es : List Named) → AllByRecursion HasFields es → AllByRecursion HasFields (changed_from change back es)
-  fields_from back [] h = tt
-  fields_from back (e ∷ es) h =
-      all_append HasFields (changed_at change back e) (changed_from change (e ∷ back) es) (fields_at back e h.0) (fields_from (e ∷ back) es h.1)
-
   -- what is placed has fields still, with the entries of the image
   merged_holds : (p : Placed) → PlacedFields p → PlacedFields (image_placed g p)
-  merged_holds p h = record { machine = h.machine; text = h.text; data_part = h.data_part; named = fields_from [] p.named h.named }
+  merged_holds p h = record { machine = h.machine; text = h.text; data_part = h.data_part; named = all_changed HasFields change mark_fields [] p.named h.named }
 
 -- ---- the file of an image
 
@@ -427,11 +407,6 @@ image_bytes p h =
     let datum : IsBytes (p.data_part ++ strings) = IsBytes-append p.data_part strings h.data_part entries in
     let text : IsBytes (p.text ++ (p.data_part ++ strings)) = IsBytes-append p.text (p.data_part ++ strings) h.text datum in
     IsBytes-append (header_bytes (header_for o)) (p.text ++ (p.data_part ++ strings)) (header_is_bytes (header_for o)) text
-
--- accepted kinds have no fault
-no_kind_fault : (place : ℕ) (ns : List Named) → AllByRecursion HasAcceptedKind ns → first_fault (kinds_checks place ns) ≡ None
-no_kind_fault place [] h = refl
-no_kind_fault place (n ∷ ns) h = ap (λ (b : Bool). cond b (first_fault (kinds_checks (place + 1) ns)) (Some (fault_at KIND place))) h.0 ∙ no_kind_fault (place + 1) ns h.1
 
 -- where the size has no fault, it is within the limit
 size_within : (n : ℕ) → first_fault (size_check n ∷ []) ≡ None → n ≤ FILE_LIMIT
