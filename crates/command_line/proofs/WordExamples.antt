@@ -1,62 +1,40 @@
 -- Worked values of what words ask, by hand.
-use Rattle.std.proofs.Common.{◌≡◌, ◌<◌, ℕ, zero, suc, Bool, true, false, ◌&&◌, List, [], ◌∷◌, Some, refl, lit<}
-use Rattle.std.specs.Prelude.{codes, nat_lt, slice_index}
+use Rattle.std.proofs.Common.{◌≡◌, ℕ, true, false, List, [], ◌∷◌, Some, refl}
+use Rattle.std.specs.Prelude.{codes}
 use Rattle.std.specs.Str.{bytes_eq, is_utf8}
-use Rattle.std.proofs.lemmas.Bool.{ltb-true, and_parts}
-use Rattle.std.proofs.lemmas.Str.{IsUtf8-from_ascii, is_utf8-from_IsUtf8}
 use Rattle.query_text.specs.declared.query.Query.TheVariants.{TagNamed, Units}
 use Rattle.query_text.specs.Queries.{form_from}
 use Rattle.aout_link.specs.declared.linking.Mode.TheVariants as modes
 use Rattle.command_line.specs.declared.command.Command.TheVariants as commands
 use Rattle.command_line.specs.declared.command.Asked.TheVariants as asks
 use Rattle.readers.specs.Words.{number_at, digits_on}
-use Rattle.command_line.specs.Words.{is_text}
+use Rattle.query_text.specs.Places.{is_text}
+use Rattle.query_text.proofs.TextLemmas.{ascii_text}
 use Rattle.st_base.specs.declared.order.Order.TheVariants.{Big}
 use Rattle.command_line.specs.Commands.{asked, inputs_of, output_of}
 
--- ---- texts of ASCII are UTF-8
+-- ---- the words of this page
 
-all_ascii : List ℕ → Bool
-all_ascii [] = true
-all_ascii (b ∷ bytes) = nat_lt b 128 && all_ascii bytes
-
-below : (bytes : List ℕ) → all_ascii bytes ≡ true → (at : ℕ) → slice_index bytes at < 128
-unfolding all_ascii
-below [] e at = lit< tt
-below (b ∷ bytes) e zero = ltb-true b 128 (and_parts (nat_lt b 128) (all_ascii bytes) e).0
-below (b ∷ bytes) e (suc at) = below bytes (and_parts (nat_lt b 128) (all_ascii bytes) e).1 at
-
-text : (bytes : List ℕ) → all_ascii bytes ≡ true → is_utf8 bytes ≡ true
-text bytes e = is_utf8-from_IsUtf8 bytes (IsUtf8-from_ascii bytes (below bytes e))
-
--- the words of this page
 query_text : is_utf8 (codes "query") ≡ true
-unfolding all_ascii
-query_text = text (codes "query") refl
+query_text = ascii_text (codes "query") refl
 
 file_text : is_utf8 (codes "a.o") ≡ true
-unfolding all_ascii
-file_text = text (codes "a.o") refl
+file_text = ascii_text (codes "a.o") refl
 
 tag_text : is_utf8 (codes "tag") ≡ true
-unfolding all_ascii
-tag_text = text (codes "tag") refl
+tag_text = ascii_text (codes "tag") refl
 
 units_text : is_utf8 (codes "units") ≡ true
-unfolding all_ascii
-units_text = text (codes "units") refl
+units_text = ascii_text (codes "units") refl
 
 unit_text : is_utf8 (codes "0") ≡ true
-unfolding all_ascii
-unit_text = text (codes "0") refl
+unit_text = ascii_text (codes "0") refl
 
 zeros_text : is_utf8 (codes "00") ≡ true
-unfolding all_ascii
-zeros_text = text (codes "00") refl
+zeros_text = ascii_text (codes "00") refl
 
-name_text : is_utf8 (codes "list") ≡ true
-unfolding all_ascii
-name_text = text (codes "list") refl
+list_text : is_utf8 (codes "list") ≡ true
+list_text = ascii_text (codes "list") refl
 
 -- ---- lines
 
@@ -72,7 +50,7 @@ all_units = rw (query_text, file_text, units_text) refl
 -- the tag `list` of unit 0 of the file `a.o`
 a_query : asked (line (codes "0")) ≡ asks.Command (commands.Query (codes "a.o") (TagNamed 0 (codes "list")))
 unfolding form_from number_at digits_on
-a_query = rw (query_text, file_text, tag_text, unit_text, name_text) refl
+a_query = rw (query_text, file_text, tag_text, unit_text, list_text) refl
 
 -- its one input
 an_input : inputs_of (commands.Query (codes "a.o") (TagNamed 0 (codes "list"))) ≡ codes "a.o" ∷ []
@@ -92,7 +70,7 @@ a_missing_name = rw (query_text, file_text, tag_text, unit_text) refl
 
 a_word_too_many : asked (codes "query" ∷ codes "a.o" ∷ codes "tag" ∷ codes "0" ∷ codes "list" ∷ codes "list" ∷ []) ≡ asks.Wrong 5
 unfolding form_from number_at digits_on
-a_word_too_many = rw (query_text, file_text, tag_text, unit_text, name_text) refl
+a_word_too_many = rw (query_text, file_text, tag_text, unit_text, list_text) refl
 
 -- a word that is not UTF-8 is wrong, even as the name of a file
 no_text : (word : List ℕ) → is_text word ≡ false → asked (codes "query" ∷ word ∷ []) ≡ asks.Wrong 1
@@ -105,16 +83,10 @@ not_the_other e = let is = a_query in absurd cc
 -- ---- sources and objects
 
 as_text : is_utf8 (codes "as") ≡ true
-unfolding all_ascii
-as_text = text (codes "as") refl
+as_text = ascii_text (codes "as") refl
 
 big_text : is_utf8 (codes "big") ≡ true
-unfolding all_ascii
-big_text = text (codes "big") refl
-
-list_text : is_utf8 (codes "list") ≡ true
-unfolding all_ascii
-list_text = text (codes "list") refl
+big_text = ascii_text (codes "big") refl
 
 an_assembly : asked (codes "as" ∷ codes "big" ∷ codes "a.o" ∷ codes "list" ∷ []) ≡ asks.Command (commands.As Big (codes "a.o") (codes "list"))
 an_assembly = rw (as_text, big_text, file_text, list_text) refl
@@ -138,8 +110,7 @@ a_listing = rw (list_text, file_text) refl
 -- ---- checks
 
 check_text : is_utf8 (codes "check") ≡ true
-unfolding all_ascii
-check_text = text (codes "check") refl
+check_text = ascii_text (codes "check") refl
 
 a_check : asked (codes "check" ∷ codes "a.o" ∷ []) ≡ asks.Command (commands.Check (codes "a.o"))
 a_check = rw (check_text, file_text) refl
@@ -153,20 +124,16 @@ two_checks = rw (check_text, file_text) refl
 -- ---- links
 
 link_text : is_utf8 (codes "link") ≡ true
-unfolding all_ascii
-link_text = text (codes "link") refl
+link_text = ascii_text (codes "link") refl
 
 keep_text : is_utf8 (codes "keep") ≡ true
-unfolding all_ascii
-keep_text = text (codes "keep") refl
+keep_text = ascii_text (codes "keep") refl
 
 base_text : is_utf8 (codes "0x1Ac") ≡ true
-unfolding all_ascii
-base_text = text (codes "0x1Ac") refl
+base_text = ascii_text (codes "0x1Ac") refl
 
 odd_text : is_utf8 (codes "0x1ae") ≡ true
-unfolding all_ascii
-odd_text = text (codes "0x1ae") refl
+odd_text = ascii_text (codes "0x1ae") refl
 
 -- every word from the fifth on is an object
 a_link : asked (codes "link" ∷ codes "keep" ∷ codes "0x1Ac" ∷ codes "tag" ∷ codes "a.o" ∷ codes "list" ∷ [])
@@ -188,8 +155,7 @@ no_later_text : (word : List ℕ) → is_text word ≡ false → asked (codes "l
 no_later_text word none = rw (link_text, keep_text, base_text, tag_text, file_text, none) refl
 
 merge_text : is_utf8 (codes "merge") ≡ true
-unfolding all_ascii
-merge_text = text (codes "merge") refl
+merge_text = ascii_text (codes "merge") refl
 
 -- the other mode
 a_merge : asked (codes "link" ∷ codes "merge" ∷ codes "0x1Ac" ∷ codes "tag" ∷ codes "a.o" ∷ []) ≡ asks.Command (commands.Link modes.Merge 428 (codes "tag") (codes "a.o" ∷ []))
@@ -202,17 +168,15 @@ no_mode = rw (link_text, tag_text) refl
 -- ---- asking
 
 ask_text : is_utf8 (codes "ask") ≡ true
-unfolding all_ascii
-ask_text = text (codes "ask") refl
+ask_text = ascii_text (codes "ask") refl
 
 dashes_text : is_utf8 (codes "--") ≡ true
-unfolding all_ascii
-dashes_text = text (codes "--") refl
+dashes_text = ascii_text (codes "--") refl
 
 -- the words before the first `--` are objects, those behind it a query
 an_ask : asked (codes "ask" ∷ codes "a.o" ∷ codes "list" ∷ codes "--" ∷ codes "units" ∷ []) ≡ asks.Command (commands.Ask (codes "a.o" ∷ codes "list" ∷ []) Units)
 unfolding form_from
-an_ask = rw (ask_text, file_text, name_text, units_text) refl
+an_ask = rw (ask_text, file_text, list_text, units_text) refl
 
 asked_inputs : inputs_of (commands.Ask (codes "a.o" ∷ codes "list" ∷ []) Units) ≡ codes "a.o" ∷ codes "list" ∷ []
 asked_inputs = refl

@@ -1,10 +1,9 @@
--- Where the words of a line go wrong, and which word is an operand, from a place on.
-use Rattle.std.proofs.Common.{◌≡◌, ◌≤◌, ◌<◌, ℕ, zero, suc, ◌+◌, Bool, false, List, [], ◌∷◌, length, drop, get_or, Some, refl, sym, ap, ◌∙◌, add-one, cond}
-use Rattle.std.proofs.Math.Seq.{drop-cons, drop-length}
-use Rattle.std.proofs.Math.ListN.{drop_of_length-le}
+-- Which word is an operand, from a place on.
+use Rattle.std.proofs.Common.{◌≡◌, ◌<◌, ℕ, zero, suc, ◌+◌, Bool, false, List, [], ◌∷◌, length, drop, get_or, refl, sym, ap, ◌∙◌, add-one, cond}
+use Rattle.std.proofs.Math.Seq.{drop-cons}
 use Rattle.command_line.specs.declared.words.Operand.{Operand}
 use Rattle.command_line.specs.declared.words.Want.{Want}
-use Rattle.command_line.specs.Words.{wrong_from, word_of, is_operand, first, behind}
+use Rattle.command_line.specs.Words.{word_of, is_operand, first, behind}
 
 -- one word more is behind
 drop-behind : (at : ℕ) (words : List (List ℕ)) → drop (at + 1) words ≡ behind (drop at words)
@@ -29,12 +28,3 @@ module _ (places : List Want) (words : List (List ℕ)) (at : ℕ) (d : Want) (w
   unfolding place
   word_of-past operand other =
       rw (split, drop-behind at words) (sym (ap (λ (b : Bool). cond b (first (drop at words)) (word_of operand (drop (at + 1) places) (behind (drop at words)))) other))
-
-  -- where a word is missing, its place is told
-  pub wrong_from-missing : length words ≤ at → wrong_from at (drop at places) (drop at words) ≡ Some at
-  wrong_from-missing past = rw (split, drop_of_length-le words past) refl
-
--- where there are too many, the first of them is told
-pub wrong_from-many : (places : List Want) (words : List (List ℕ)) → length places < length words
-    → wrong_from (length places) (drop (length places) places) (drop (length places) words) ≡ Some (length places)
-wrong_from-many places words more = rw (drop-length places, drop-cons words (length places) [] more) refl

@@ -1,8 +1,9 @@
 -- The words of a command line: what each place of a command wants, and which word is wrong. This is this project's own.
-use Rattle.std.specs.Prelude.{ℕ, ◌+◌, Bool, false, true, not, ◌&&◌, if◌then◌else◌, ◌%◌, ◌==◌, List, [], ◌∷◌, length, take, codes, Option, Some, None, is_some, Result, Ok, Err}
-use Rattle.std.specs.Str.{bytes_eq, is_utf8}
+use Rattle.std.specs.Prelude.{ℕ, ◌+◌, Bool, false, true, not, if◌then◌else◌, ◌%◌, ◌==◌, List, [], ◌∷◌, length, take, codes, Option, Some, None, is_some, Result, Ok, Err}
+use Rattle.std.specs.Str.{bytes_eq}
 use Rattle.st_base.specs.declared.order.Order.{Order}
 use Rattle.st_base.specs.declared.order.Order.TheVariants as orders
+use Rattle.query_text.specs.Places.{is_text, wrong_place}
 use Rattle.query_text.specs.Words.{spelled_address}
 use Rattle.aout_link.specs.declared.linking.Mode.{Mode}
 use Rattle.aout_link.specs.declared.linking.Mode.TheVariants as modes
@@ -14,10 +15,6 @@ use Rattle.command_line.specs.declared.words.Want.{Want}
 use Rattle.command_line.specs.declared.words.Want.TheVariants.{This, Any, Order as Order', Base as Base', Mode as Mode', Object as Object'}
 
 -- ---- words
-
--- the word is UTF-8, as every word of a command is
-abbrev pub is_text : List ℕ → Bool
-is_text word = is_utf8 word
 
 -- the word that a keyword is
 abbrev pub keyword_text : Keyword → List ℕ
@@ -63,25 +60,9 @@ is_wanted Base' word = is_some (base_of word)
 is_wanted Mode' word = is_some (mode_of word)
 is_wanted Object' word = not (is_dashes word)
 
--- the place holds what it wants, and that is UTF-8
-abbrev pub holds : Want → List ℕ → Bool
-holds want word = is_text word && is_wanted want word
-
--- where words stop to be what places want, `at` of them standing before: the first that does not hold it, the number of words
--- where one is missing, or the first one too many
-abbrev pub wrong_from : ℕ → List Want → List (List ℕ) → Option ℕ
-wrong_from at [] [] = None
-wrong_from at [] (word ∷ words) = Some at
-wrong_from at (want ∷ places) [] = Some at
-wrong_from at (want ∷ places) (word ∷ words) = if holds want word then wrong_from (at + 1) places words else Some at
-
--- the wrong place of a whole line; none where the words are what the places want
-abbrev pub wrong_place : List Want → List (List ℕ) → Option ℕ
-wrong_place places words = wrong_from 0 places words
-
 -- the wrong place among the first words, as many as there are places; others may follow
 abbrev pub wrong_front : List Want → List (List ℕ) → Option ℕ
-wrong_front places words = wrong_place places (take (length places) words)
+wrong_front places words = wrong_place is_wanted places (take (length places) words)
 
 -- the first word that is not UTF-8, `at` of them standing before
 abbrev pub first_no_text : ℕ → List (List ℕ) → Option ℕ

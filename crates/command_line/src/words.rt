@@ -4,10 +4,9 @@ ghost use Rattle.std.specs.Prelude.{◌≡◌, ◌≤◌, ◌<◌, IfOk, length,
 ghost use Rattle.command_line.specs.Words as spec;
 
 use aout_link::Mode;
-use query_text::address_of;
+use query_text::{Wanted, address_of, is_text, wrong_place};
 use st_base::{Memory, Order, Text};
 use std::alloc::Global;
-use std::str::from_utf8;
 
 /// A word that stands in commands as it is.
 #[derive(Clone, Copy, Debug, Drop, PartialEq, Eq)]
@@ -68,12 +67,6 @@ fn keyword_text(keyword: Keyword) -> &'static [u8]
     }
 }
 
-fn is_text(word: &Text) -> bool
-    ensures { result ≡ spec.is_text word.now }
-{
-    from_utf8(word.bytes()).is_ok()
-}
-
 /// The byte order that a word names. Takes no memory.
 pub fn order_of(word: &[u8]) -> Option<Order>
     ensures { result ≡ spec.order_of word.now }
@@ -111,47 +104,26 @@ pub fn mode_of(word: &[u8]) -> Option<Mode>
     }
 }
 
-fn is_dashes(word: &Text) -> bool
+fn is_dashes(word: &[u8]) -> bool
     ensures { result ≡ spec.is_dashes word.now }
 {
-    word.bytes() == b"--".as_slice()
+    word == b"--".as_slice()
 }
 
-fn is_wanted(want: Want, word: &Text) -> bool
-    ensures { result ≡ spec.is_wanted want word.now }
-{
-    match want {
-        Want::This(keyword) => word.bytes() == keyword_text(keyword),
-        Want::Any(_) => true,
-        Want::Order => order_of(word.bytes()).is_some(),
-        Want::Base => base_of(word.bytes()).is_some(),
-        Want::Mode => mode_of(word.bytes()).is_some(),
-        Want::Object => !is_dashes(word),
-    }
-}
+impl Wanted for Want {
+    ghost use Rattle.command_line.specs.Words.{is_wanted};
 
-fn holds(want: Want, word: &Text) -> bool
-    ensures { result ≡ spec.holds want word.now }
-{
-    is_text(word) && is_wanted(want, word)
-}
+    ghost wants = { is_wanted };
 
-/// The first place whose word is not what is wanted there, the number of words where one is missing, or the place of the first
-/// word too many; `None` where the words are what the places want. Takes no memory.
-fn wrong_place(places: &[Want], words: &[Text]) -> Option<usize>
-    ensures { result ≡ spec.wrong_place places.now words.now }
-{
-    for (at, want) in places.iter().enumerate() {
-        match words.get(at) {
-            None => return Some(at),
-            Some(word) if holds(*want, word) => {}
-            Some(_) => return Some(at),
+    fn is_wanted(self, word: &[u8]) -> bool {
+        match self {
+            Want::This(keyword) => word == keyword_text(keyword),
+            Want::Any(_) => true,
+            Want::Order => order_of(word).is_some(),
+            Want::Base => base_of(word).is_some(),
+            Want::Mode => mode_of(word).is_some(),
+            Want::Object => !is_dashes(word),
         }
-    }
-    if places.len() < words.len() {
-        Some(places.len())
-    } else {
-        None
     }
 }
 
@@ -184,7 +156,7 @@ pub fn objects_end(from: usize, words: &[Text]) -> Result<usize, usize>
     ensures inside { IfOk result (λ end. (from ≤ end) × (end < length words.now)) }
 {
     for at in from..words.len() {
-        if is_dashes(&words[at]) {
+        if is_dashes(words[at].bytes()) {
             return Ok(at);
         }
         if !is_text(&words[at]) {

@@ -1,5 +1,5 @@
 pub mod TextLemmas
-pub mod WordLemmas
+pub mod PlaceLemmas
 pub mod FormLemmas
 pub mod SpellLemmas
 pub mod ExternalLemmas

@@ -1,13 +1,13 @@
 -- Worked values of what words ask, by hand.
-use Rattle.std.proofs.Common.{◌≡◌, ◌<◌, ℕ, zero, suc, Bool, true, false, ◌&&◌, List, [], ◌∷◌, Some, None, refl, lit<}
-use Rattle.std.specs.Prelude.{codes, nat_lt, slice_index, Ok, Err}
+use Rattle.std.proofs.Common.{◌≡◌, ℕ, true, false, List, [], ◌∷◌, Some, None, refl}
+use Rattle.std.specs.Prelude.{codes, Ok, Err}
 use Rattle.std.specs.Str.{is_utf8}
-use Rattle.std.proofs.lemmas.Bool.{ltb-true, and_parts}
-use Rattle.std.proofs.lemmas.Str.{IsUtf8-from_ascii, is_utf8-from_IsUtf8}
 use Rattle.readers.specs.Words.{number_at, digits_on}
 use Rattle.query_text.specs.declared.query.Query.TheVariants as queries
-use Rattle.query_text.specs.Words.{is_text, spelled_address}
+use Rattle.query_text.specs.Places.{is_text}
+use Rattle.query_text.specs.Words.{spelled_address}
 use Rattle.query_text.specs.Queries.{asked, form_from, Spell}
+use Rattle.query_text.proofs.TextLemmas.{ascii_text}
 
 -- ---- addresses
 
@@ -31,45 +31,25 @@ no_digit = refl
 a_large_letter : spelled_address (codes "0X1") ≡ None
 a_large_letter = refl
 
--- ---- texts of ASCII are UTF-8
+-- ---- the words of this page
 
-all_ascii : List ℕ → Bool
-all_ascii [] = true
-all_ascii (b ∷ bytes) = nat_lt b 128 && all_ascii bytes
-
-below : (bytes : List ℕ) → all_ascii bytes ≡ true → (at : ℕ) → slice_index bytes at < 128
-unfolding all_ascii
-below [] e at = lit< tt
-below (b ∷ bytes) e zero = ltb-true b 128 (and_parts (nat_lt b 128) (all_ascii bytes) e).0
-below (b ∷ bytes) e (suc at) = below bytes (and_parts (nat_lt b 128) (all_ascii bytes) e).1 at
-
-text : (bytes : List ℕ) → all_ascii bytes ≡ true → is_utf8 bytes ≡ true
-text bytes e = is_utf8-from_IsUtf8 bytes (IsUtf8-from_ascii bytes (below bytes e))
-
--- the words of this page
 addresses_text : is_utf8 (codes "addresses") ≡ true
-unfolding all_ascii
-addresses_text = text (codes "addresses") refl
+addresses_text = ascii_text (codes "addresses") refl
 
 tag_text : is_utf8 (codes "tag") ≡ true
-unfolding all_ascii
-tag_text = text (codes "tag") refl
+tag_text = ascii_text (codes "tag") refl
 
 file_text : is_utf8 (codes "a.c") ≡ true
-unfolding all_ascii
-file_text = text (codes "a.c") refl
+file_text = ascii_text (codes "a.c") refl
 
 seven_text : is_utf8 (codes "7") ≡ true
-unfolding all_ascii
-seven_text = text (codes "7") refl
+seven_text = ascii_text (codes "7") refl
 
 zeros_text : is_utf8 (codes "07") ≡ true
-unfolding all_ascii
-zeros_text = text (codes "07") refl
+zeros_text = ascii_text (codes "07") refl
 
 large_text : is_utf8 (codes "65536") ≡ true
-unfolding all_ascii
-large_text = text (codes "65536") refl
+large_text = ascii_text (codes "65536") refl
 
 -- ---- queries
 

@@ -11,26 +11,31 @@ use Rattle.query_text.specs.declared.want.Keyword.{Keyword}
 use Rattle.query_text.specs.declared.want.Keyword.TheVariants as keywords
 use Rattle.query_text.specs.declared.want.Want.{Want}
 use Rattle.query_text.specs.declared.want.Want.TheVariants as wants
-use Rattle.query_text.specs.Words.{holds, is_text, is_wanted, keyword_text, spelled_number, number_of, line_of, spelled_address, address_of, wrong_from, wrong_place}
+use Rattle.query_text.specs.Places.{holds, is_text, wrong_from, wrong_place}
+use Rattle.query_text.specs.Words.{is_wanted, keyword_text, spelled_number, number_of, line_of, spelled_address, address_of}
 use Rattle.query_text.specs.Queries.{places_of, query_of, form_from, go_on, form_of, asked, asked_by, all_keywords, Spell, Reads}
 
 -- ---- a word that is wanted
 
-keyword : (k : Keyword) (word : List ℕ) → holds (wants.This k) word ≡ true → word ≡ keyword_text k
+-- the place of a query holds what it wants
+abbrev Holds : Want → List ℕ → Type 0
+Holds want word = holds is_wanted want word ≡ true
+
+keyword : (k : Keyword) (word : List ℕ) → Holds (wants.This k) word → word ≡ keyword_text k
 keyword k word e = (bytes_eq-Decides word (keyword_text k)).0 (and_parts (is_text word) (is_wanted (wants.This k) word) e).1
 
 spelled : (most : ℕ) (o : Option ℕ) (word : List ℕ) → is_some o ≡ true → IfSome o (λ n. (n ≤ most) × (word ≡ decimal n)) → word ≡ decimal (unwrap_or o 0)
 spelled most None word e h = absurd cc
 spelled most (Some n) word e h = h.1
 
-number : (word : List ℕ) → holds wants.Number word ≡ true → word ≡ decimal (number_of word)
+number : (word : List ℕ) → Holds wants.Number word → word ≡ decimal (number_of word)
 number word e =
     let nine : 9 ≤ GREATEST_NUMBER = omega arith in
     let small : GREATEST_NUMBER < 2 ^ 64 = omega arith in
     spelled GREATEST_NUMBER (spelled_number GREATEST_NUMBER word) word (and_parts (is_text word) (is_wanted wants.Number word) e).1
     (found_of GREATEST_NUMBER nine small word (spelled_number GREATEST_NUMBER word) refl)
 
-line : (word : List ℕ) → holds wants.Line word ≡ true → word ≡ decimal (line_of word)
+line : (word : List ℕ) → Holds wants.Line word → word ≡ decimal (line_of word)
 line word e =
     let nine : 9 ≤ GREATEST_LINE = omega arith in
     let small : GREATEST_LINE < 2 ^ 64 = omega arith in
@@ -41,43 +46,43 @@ there : (o : Option ℕ) → is_some o ≡ true → o ≡ Some (unwrap_or o 0)
 there None e = absurd cc
 there (Some n) e = refl
 
-address : (word : List ℕ) → holds wants.Address word ≡ true → spelled_address word ≡ Some (address_of word)
+address : (word : List ℕ) → Holds wants.Address word → spelled_address word ≡ Some (address_of word)
 address word e = there (spelled_address word) (and_parts (is_text word) (is_wanted wants.Address word) e).1
 
 -- ---- words that are what places want
 
 module _ (P : List (List ℕ) → Type 0) where
-  none : (at : ℕ) → P [] → (words : List (List ℕ)) → wrong_from at [] words ≡ None → P words
+  none : (at : ℕ) → P [] → (words : List (List ℕ)) → wrong_from is_wanted at [] words ≡ None → P words
   none at p [] e = p
   none at p (word ∷ words) e = absurd cc
 
 module _ (P : List (List ℕ) → Type 0) (at : ℕ) (want : Want) (places : List Want)
-    (each : (word : List ℕ) → holds want word ≡ true → (words : List (List ℕ)) → wrong_from (at + 1) places words ≡ None → P (word ∷ words)) where
-  more : (words : List (List ℕ)) → wrong_from at (want ∷ places) words ≡ None → P words
+    (each : (word : List ℕ) → Holds want word → (words : List (List ℕ)) → wrong_from is_wanted (at + 1) places words ≡ None → P (word ∷ words)) where
+  more : (words : List (List ℕ)) → wrong_from is_wanted at (want ∷ places) words ≡ None → P words
   more [] e = absurd cc
-  more (word ∷ words) e = by_test (holds want word) refl e where
-    by_test : (b : Bool) → holds want word ≡ b → cond b (wrong_from (at + 1) places words) (Some at) ≡ None → P (word ∷ words)
+  more (word ∷ words) e = by_test (holds is_wanted want word) refl e where
+    by_test : (b : Bool) → holds is_wanted want word ≡ b → cond b (wrong_from is_wanted (at + 1) places words) (Some at) ≡ None → P (word ∷ words)
     by_test true h e = each word h words e
     by_test false h e = absurd cc
 
 -- what holds of one, two, three or four words that places want holds of all words that they want
-one : (P : List (List ℕ) → Type 0) (p : Want) → ((a : List ℕ) → holds p a ≡ true → P (a ∷ [])) → (words : List (List ℕ)) → wrong_place (p ∷ []) words ≡ None → P words
+one : (P : List (List ℕ) → Type 0) (p : Want) → ((a : List ℕ) → Holds p a → P (a ∷ [])) → (words : List (List ℕ)) → wrong_place is_wanted (p ∷ []) words ≡ None → P words
 one P p each = more P 0 p [] (λ a h. none (λ ws. P (a ∷ ws)) 1 (each a h))
 
-two : (P : List (List ℕ) → Type 0) (p q : Want) → ((a b : List ℕ) → holds p a ≡ true → holds q b ≡ true → P (a ∷ b ∷ []))
-    → (words : List (List ℕ)) → wrong_place (p ∷ q ∷ []) words ≡ None → P words
+two : (P : List (List ℕ) → Type 0) (p q : Want) → ((a b : List ℕ) → Holds p a → Holds q b → P (a ∷ b ∷ []))
+    → (words : List (List ℕ)) → wrong_place is_wanted (p ∷ q ∷ []) words ≡ None → P words
 two P p q each =
     more P 0 p (q ∷ []) (λ a h. more (λ ws. P (a ∷ ws)) 1 q [] (λ b i. none (λ ws. P (a ∷ b ∷ ws)) 2 (each a b h i)))
 
-three : (P : List (List ℕ) → Type 0) (p q r : Want) → ((a b c : List ℕ) → holds p a ≡ true → holds q b ≡ true → holds r c ≡ true → P (a ∷ b ∷ c ∷ []))
-    → (words : List (List ℕ)) → wrong_place (p ∷ q ∷ r ∷ []) words ≡ None → P words
+three : (P : List (List ℕ) → Type 0) (p q r : Want) → ((a b c : List ℕ) → Holds p a → Holds q b → Holds r c → P (a ∷ b ∷ c ∷ []))
+    → (words : List (List ℕ)) → wrong_place is_wanted (p ∷ q ∷ r ∷ []) words ≡ None → P words
 three P p q r each =
     more P 0 p (q ∷ r ∷ []) (λ a h. more (λ ws. P (a ∷ ws)) 1 q (r ∷ []) (λ b i. more (λ ws. P (a ∷ b ∷ ws)) 2 r []
     (λ c j. none (λ ws. P (a ∷ b ∷ c ∷ ws)) 3 (each a b c h i j))))
 
 four : (P : List (List ℕ) → Type 0) (p q r s : Want)
-    → ((a b c d : List ℕ) → holds p a ≡ true → holds q b ≡ true → holds r c ≡ true → holds s d ≡ true → P (a ∷ b ∷ c ∷ d ∷ []))
-    → (words : List (List ℕ)) → wrong_place (p ∷ q ∷ r ∷ s ∷ []) words ≡ None → P words
+    → ((a b c d : List ℕ) → Holds p a → Holds q b → Holds r c → Holds s d → P (a ∷ b ∷ c ∷ d ∷ []))
+    → (words : List (List ℕ)) → wrong_place is_wanted (p ∷ q ∷ r ∷ s ∷ []) words ≡ None → P words
 four P p q r s each =
     more P 0 p (q ∷ r ∷ s ∷ []) (λ a h. more (λ ws. P (a ∷ ws)) 1 q (r ∷ s ∷ []) (λ b i. more (λ ws. P (a ∷ b ∷ ws)) 2 r (s ∷ [])
     (λ c j. more (λ ws. P (a ∷ b ∷ c ∷ ws)) 3 s [] (λ d k. none (λ ws. P (a ∷ b ∷ c ∷ d ∷ ws)) 4 (each a b c d h i j k)))))
@@ -101,7 +106,7 @@ same_4 : (a a2 b b2 c c2 d d2 : List ℕ) → a ≡ a2 → b ≡ b2 → c ≡ c2
     → ◌≡◌ {A = List (List ℕ)} (a ∷ b ∷ c ∷ d ∷ []) (a2 ∷ b2 ∷ c2 ∷ d2 ∷ [])
 same_4 a a2 b b2 c c2 d d2 e f g h = cc
 
-spell : (k : Keyword) (words : List (List ℕ)) → wrong_place (places_of k) words ≡ None → Spells k words
+spell : (k : Keyword) (words : List (List ℕ)) → wrong_place is_wanted (places_of k) words ≡ None → Spells k words
 spell keywords.Units =
     one (Spells keywords.Units) (wants.This keywords.Units) (λ a e. same_1 a (codes "units") (keyword keywords.Units a e))
 spell keywords.Files =
@@ -134,14 +139,14 @@ spell keywords.Addresses =
 -- ---- the form that is found
 
 right : (keywords : List Keyword) (words : List (List ℕ)) (furthest : ℕ) (k : Keyword) → form_from keywords words furthest ≡ Ok k
-    → wrong_place (places_of k) words ≡ None
+    → wrong_place is_wanted (places_of k) words ≡ None
 unfolding form_from
 right [] words furthest k e = absurd cc
 right (first ∷ others) words furthest k e =
-    by_place (wrong_place (places_of first) words) refl e (λ wrong. right others words wrong k) where
-      by_place : (o : Option ℕ) → wrong_place (places_of first) words ≡ o → go_on first furthest (form_from others words) o ≡ Ok k
-          → ((wrong : ℕ) → form_from others words wrong ≡ Ok k → wrong_place (places_of k) words ≡ None) → wrong_place (places_of k) words ≡ None
-      by_place None is e later = let same : first ≡ k = cc in ap (λ (z : Keyword). wrong_place (places_of z) words) (sym same) ∙ is
+    by_place (wrong_place is_wanted (places_of first) words) refl e (λ wrong. right others words wrong k) where
+      by_place : (o : Option ℕ) → wrong_place is_wanted (places_of first) words ≡ o → go_on first furthest (form_from others words) o ≡ Ok k
+          → ((wrong : ℕ) → form_from others words wrong ≡ Ok k → wrong_place is_wanted (places_of k) words ≡ None) → wrong_place is_wanted (places_of k) words ≡ None
+      by_place None is e later = let same : first ≡ k = cc in ap (λ (z : Keyword). wrong_place is_wanted (places_of z) words) (sym same) ∙ is
       by_place (Some at) is e later = later _ e
 
 -- what words ask they spell

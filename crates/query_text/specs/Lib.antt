@@ -1,3 +1,4 @@
+pub mod Places
 pub mod Words
 pub mod Queries
 pub mod Units

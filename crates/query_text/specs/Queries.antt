@@ -10,7 +10,8 @@ use Rattle.query_text.specs.declared.want.Keyword.{Keyword}
 use Rattle.query_text.specs.declared.want.Keyword.TheVariants as keywords
 use Rattle.query_text.specs.declared.want.Want.{Want}
 use Rattle.query_text.specs.declared.want.Want.TheVariants as wants
-use Rattle.query_text.specs.Words.{wrong_place, word_at, number_of, line_of, address_of, spelled_address}
+use Rattle.query_text.specs.Places.{wrong_place}
+use Rattle.query_text.specs.Words.{is_wanted, word_at, number_of, line_of, address_of, spelled_address}
 
 -- ---- the forms
 
@@ -60,7 +61,7 @@ go_on keyword furthest others (Some at) = others (max furthest at)
 unfoldable pub form_from : List Keyword → List (List ℕ) → ℕ → Result Keyword ℕ
 form_from [] words furthest = Err furthest
 form_from (keyword ∷ others) words furthest =
-    go_on keyword furthest (form_from others words) (wrong_place (places_of keyword) words)
+    go_on keyword furthest (form_from others words) (wrong_place is_wanted (places_of keyword) words)
 
 -- the form that the words are of, by its keyword; else the wrong place, which is the furthest that a form tells
 abbrev pub form_of : List (List ℕ) → Result Keyword ℕ

@@ -1,6 +1,6 @@
--- The words of a query: what a place of it wants, and which word is wrong. This is this project's own.
+-- The words of a query: what a place of it wants. This is this project's own.
 use Rattle.std.specs.Prelude.{ℕ, ◌+◌, ◌-◌, ◌*◌, Bool, true, ◌&&◌, ◌==◌, nat_le, if◌then◌else◌, List, [], ◌∷◌, length, codes, Option, Some, None, is_some, option_and_then, unwrap_or, slice_get}
-use Rattle.std.specs.Str.{bytes_eq, is_utf8}
+use Rattle.std.specs.Str.{bytes_eq}
 use Rattle.std.specs.Result.{result_ok}
 use Rattle.readers.specs.Readers.{whole_of}
 use Rattle.readers.specs.Words.{number_at}
@@ -56,10 +56,6 @@ address_of word = unwrap_or (spelled_address word) 0
 
 -- ---- places
 
--- the word is UTF-8, as every word of a query is
-abbrev pub is_text : List ℕ → Bool
-is_text word = is_utf8 word
-
 -- the word that a keyword is
 abbrev pub keyword_text : Keyword → List ℕ
 keyword_text keywords.Units = codes "units"
@@ -78,22 +74,6 @@ is_wanted wants.Any word = true
 is_wanted wants.Number word = is_some (spelled_number GREATEST_NUMBER word)
 is_wanted wants.Line word = is_some (spelled_number GREATEST_LINE word)
 is_wanted wants.Address word = is_some (spelled_address word)
-
--- the place holds what it wants, and that is UTF-8
-abbrev pub holds : Want → List ℕ → Bool
-holds want word = is_text word && is_wanted want word
-
--- where words stop to be what places want, `at` of them standing before: the first that does not hold it, the number of words
--- where one is missing, or the first one too many
-abbrev pub wrong_from : ℕ → List Want → List (List ℕ) → Option ℕ
-wrong_from at [] [] = None
-wrong_from at [] (word ∷ words) = Some at
-wrong_from at (want ∷ places) [] = Some at
-wrong_from at (want ∷ places) (word ∷ words) = if holds want word then wrong_from (at + 1) places words else Some at
-
--- the wrong place of all words; none where they are what the places want
-abbrev pub wrong_place : List Want → List (List ℕ) → Option ℕ
-wrong_place places words = wrong_from 0 places words
 
 -- the word at a place; empty where there is none
 abbrev pub word_at : List (List ℕ) → ℕ → List ℕ

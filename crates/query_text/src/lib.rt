@@ -1,5 +1,5 @@
 //! Queries and replies: the words of a query, and the text of the reply on a world. It stands on the listings of `type_graph` and on
-//! the scopes and lines of `scope_lines`.
+//! the scopes and lines of `scope_lines`. Which word of a line is not what its place wants is told for any line (`Wanted`, `wrong_place`).
 //!
 //! The law that the layers above use: words ask one query or have one wrong place (`Queries.asked`), and a query has exactly one
 //! reply on a world (`Replies.Answers`, `one_reply`, `a_reply`).
@@ -10,6 +10,7 @@ mod external;
 mod laws;
 mod line_text;
 mod listed;
+mod places;
 mod query;
 mod read;
 mod reply;
@@ -20,6 +21,7 @@ mod want;
 
 pub use address::address_of;
 pub use laws::{a_reply, one_reply};
+pub use places::{Wanted, is_text, wrong_place};
 pub use query::Query;
 pub use read::read_query;
 pub use reply::reply_text;

@@ -5,8 +5,9 @@ ghost use Rattle.query_text.specs.Words as words_spec;
 ghost use Rattle.query_text.specs.Queries as spec;
 
 use crate::address::address_of;
+use crate::places::wrong_place;
 use crate::query::Query;
-use crate::want::{Keyword, Want, line_of, number_of, wrong_place};
+use crate::want::{Keyword, Want, line_of, number_of};
 use st_base::{Fault, List, Memory, QUERY, Refused, Text};
 use std::alloc::Global;
 

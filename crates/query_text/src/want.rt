@@ -1,12 +1,11 @@
-//! What the places of a query's words want, and where words are not what is wanted.
+//! What the places of a query's words want, and the numbers that they spell.
 
-ghost use Rattle.std.specs.Prelude.{◌≡◌, ◌≤◌, length, IfSome};
+ghost use Rattle.std.specs.Prelude.{◌≡◌};
 ghost use Rattle.query_text.specs.Words as spec;
 
 use crate::address::address_of;
+use crate::places::Wanted;
 use readers::whole_number;
-use st_base::Text;
-use std::str::from_utf8;
 
 /// The greatest number in a query.
 pub const GREATEST_NUMBER: u32 = u32::MAX;
@@ -57,47 +56,19 @@ fn keyword_text(keyword: Keyword) -> &'static [u8]
     }
 }
 
-fn is_text(word: &Text) -> bool
-    ensures { result ≡ spec.is_text word.now }
-{
-    from_utf8(word.bytes()).is_ok()
-}
+impl Wanted for Want {
+    ghost use Rattle.query_text.specs.Words.{is_wanted};
 
-fn is_wanted(want: Want, word: &Text) -> bool
-    ensures { result ≡ spec.is_wanted want word.now }
-{
-    match want {
-        Want::This(keyword) => word.bytes() == keyword_text(keyword),
-        Want::Any => true,
-        Want::Number => whole_number(GREATEST_NUMBER, word.bytes()).is_some(),
-        Want::Line => whole_number(GREATEST_LINE, word.bytes()).is_some(),
-        Want::Address => address_of(word.bytes()).is_some(),
-    }
-}
+    ghost wants = { is_wanted };
 
-fn holds(want: Want, word: &Text) -> bool
-    ensures { result ≡ spec.holds want word.now }
-{
-    is_text(word) && is_wanted(want, word)
-}
-
-/// The first place whose word is not what is wanted there, the number of words where one is missing, or the place of the first
-/// word too many; `None` where the words are what the places want. Takes no memory.
-pub fn wrong_place(places: &[Want], words: &[Text]) -> Option<usize>
-    ensures place { result ≡ spec.wrong_place places.now words.now }
-    ensures within { IfSome result (λ at. at ≤ length words.now) }
-{
-    for (at, want) in places.iter().enumerate() {
-        match words.get(at) {
-            None => return Some(at),
-            Some(word) if holds(*want, word) => {}
-            Some(_) => return Some(at),
+    fn is_wanted(self, word: &[u8]) -> bool {
+        match self {
+            Want::This(keyword) => word == keyword_text(keyword),
+            Want::Any => true,
+            Want::Number => whole_number(GREATEST_NUMBER, word).is_some(),
+            Want::Line => whole_number(GREATEST_LINE, word).is_some(),
+            Want::Address => address_of(word).is_some(),
         }
-    }
-    if places.len() < words.len() {
-        Some(places.len())
-    } else {
-        None
     }
 }
 
