@@ -1,13 +1,11 @@
 -- What is replied on the bytes of files, from what was said on their objects, or on the worlds of these.
 use Rattle.std.proofs.Common.{◌≡◌, ℕ, inl, inr, List, Result, Ok, Err, sym, subst}
 use Rattle.std.specs.Prelude.{IfOk}
-use Rattle.st_base.specs.Number.{IsBytes}
 use Rattle.st_base.specs.declared.fault.Fault.{Fault}
 use Rattle.nlist_codec.specs.declared.named.Named.{Named}
-use Rattle.aout_object.specs.Objects.{ObjectSpells, named_of}
+use Rattle.aout_object.specs.Objects.{named_of}
 use Rattle.unit_index.specs.Expanding.{ExpandFault}
 use Rattle.aout_object.specs.Objects.{Contents as Object}
-use Rattle.aout_object.specs.Checks.{FileFault}
 use Rattle.type_graph.specs.declared.world.World.{World}
 use Rattle.query_text.specs.declared.query.Query.{Query}
 use Rattle.command_line.specs.declared.command.Command.{Command}
@@ -18,7 +16,7 @@ use Rattle.file_commands.specs.Outcomes.{refused}
 use Rattle.aout_link.specs.declared.linking.Mode.{Mode}
 use Rattle.file_commands.specs.Linking.{LinksFiles}
 use Rattle.file_commands.specs.Asking.{AsksFiles}
-use Rattle.file_commands.specs.Replies.{text_end, WorldFault, OnWorld, OnObject, Answers}
+use Rattle.file_commands.specs.Replies.{text_end, WorldFault, OnWorld, OnObject, IsObjectOf, Answers}
 
 -- the fault of entries, where text ends at an address, is that of the object whose entries they are and whose text ends there
 pub world_fault : (object : Object) (end : ℕ) (entries : List Named) (f : Fault) → end ≡ text_end object → entries ≡ named_of object
@@ -34,15 +32,13 @@ by_world_fault name object Says f (Ok o) is said = inr ((f, is, said))
 
 -- what is said on the object that the bytes spell
 pub by_object : {E : Type 0} (name bytes : List ℕ) (Says : Object → Outcome → Type 0) (object : Object) (res : Result Outcome E)
-    → IsBytes bytes → ObjectSpells object bytes → IfOk res (Says object) → IfOk res (OnObject name bytes Says)
-by_object name bytes Says object (Err e) are spells said = tt
-by_object name bytes Says object (Ok o) are spells said = (are, inl ((object, spells, said)))
+    → IsObjectOf name bytes (Ok object) → IfOk res (Says object) → IfOk res (OnObject name bytes Says)
+by_object name bytes Says object (Err e) spells said = tt
+by_object name bytes Says object (Ok o) spells said = (spells.0, inl ((object, spells.1, said)))
 
 -- the refusal of the bytes
-pub by_fault : {E : Type 0} (name bytes : List ℕ) (Says : Object → Outcome → Type 0) (f : Fault) (res : Result Outcome E)
-    → IsBytes bytes → FileFault bytes f → IfOk res (λ o. o ≡ refused name f) → IfOk res (OnObject name bytes Says)
-by_fault name bytes Says f (Err e) are is said = tt
-by_fault name bytes Says f (Ok o) are is said = (are, inr ((f, is, said)))
+pub by_refusal : (name bytes : List ℕ) (Says : Object → Outcome → Type 0) (o : Outcome) → IsObjectOf name bytes (Err o) → OnObject name bytes Says o
+by_refusal name bytes Says o is = (is.1.0, inr ((is.0, is.1.1, is.2)))
 
 -- what is said on the bytes that were read is the answer to the command
 pub by_command : {E : Type 0} (command of : Command) (texts : List (List ℕ)) (name read : List ℕ) (Says : Object → Outcome → Type 0) (res : Result Outcome E)

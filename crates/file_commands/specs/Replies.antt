@@ -30,6 +30,7 @@ use Rattle.file_commands.specs.Dump.{dump_text}
 use Rattle.file_commands.specs.Checking.{check_text}
 use Rattle.command_line.specs.Commands.{asked, inputs_of, most_of}
 use Rattle.file_commands.specs.Inputs.{loaded_inputs, name_at}
+use Rattle.file_commands.specs.Objects.{Spells, SpellsNone}
 use Rattle.file_commands.specs.Linking.{LinksFiles}
 use Rattle.file_commands.specs.Asking.{AsksFiles}
 use Rattle.file_commands.specs.Outcomes.{printed, usage, absent, read_fault, limit, refused, refused_or_limit, kept}
@@ -69,6 +70,11 @@ RepliesOnObject name query object o = OnWorld name object (RepliesOnWorld query)
 abbrev pub OnObject : List ℕ → List ℕ → (Object → Outcome → Type 0) → Outcome → Type 0
 OnObject name bytes Says o = IsBytes bytes × (((object : Object) × ObjectSpells object bytes × Says object o)
     ⊎ ((f : Fault) × FileFault bytes f × (o ≡ refused name f)))
+
+-- the object that the bytes of a file spell, or the refusal of the file, which has this name
+abbrev pub IsObjectOf : List ℕ → List ℕ → Result Object Outcome → Type 0
+IsObjectOf name bytes (Ok object) = Spells bytes object
+IsObjectOf name bytes (Err o) = (f : Fault) × SpellsNone bytes f × (o ≡ refused name f)
 
 -- how much an object has
 abbrev pub Counts : Object → World → Outcome → Type 0

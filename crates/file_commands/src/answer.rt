@@ -6,7 +6,7 @@ ghost use Rattle.aout_object.specs.Objects.{file_of};
 ghost use Rattle.file_commands.specs.Inputs.{IsPlaced};
 ghost use Rattle.file_commands.specs.Outcomes as outcomes;
 ghost use Rattle.command_line.specs.Words as words;
-ghost use Rattle.file_commands.specs.Replies.{RepliesOnWorld, RepliesOnObject, OnObject, Counts, Checks, Dumps, Lists, Answers, RepliesTo, kept_object};
+ghost use Rattle.file_commands.specs.Replies.{RepliesOnWorld, RepliesOnObject, OnObject, IsObjectOf, Counts, Checks, Dumps, Lists, Answers, RepliesTo, kept_object};
 ghost use Rattle.stabs_asm.specs.Assembling.{assembled};
 ghost use Rattle.stabs_asm.specs.Lines.{read_source};
 
@@ -15,11 +15,12 @@ use crate::checking::check_text;
 use crate::dump::dump_text;
 use crate::inputs::{Cause, Inputs};
 use crate::linking::link_files;
+use crate::objects::read_object;
 use crate::outcome::{
     DONE, Outcome, absent, kept, limit, printed, read_fault, refused, refused_or_limit,
 };
 use crate::reading::read_world;
-use aout_object::{Object, decode, encode};
+use aout_object::{Object, encode};
 use command_line::{Command, MOST_NAMES, most_of};
 use query_text::{Query, reply_text};
 use st_base::{FILE_LIMIT, Memory, Order, Refused, Text};
@@ -47,14 +48,25 @@ fn on_object(alloc: Global, name: &[u8], query: &Query, object: &Object) -> Resu
     }
 }
 
+/// The object that the bytes of a file spell, or the refusal of the file.
+fn object_of(alloc: Global, name: &[u8], bytes: &[u8]) -> Result<Result<Object, Outcome>, Memory>
+    ensures { IfOk result (IsObjectOf name.now bytes.now) }
+{
+    match read_object(alloc, bytes) {
+        Ok(object) => Ok(Ok(object)),
+        Err(Refused::At(fault)) => Ok(Err(refused(alloc, name, fault)?)),
+        Err(Refused::Memory) => Err(Memory),
+    }
+}
+
 /// The reply on the bytes of a file.
+#[tactic(auto, using(crate::proofs::ReplyLemmas::by_object, crate::proofs::ReplyLemmas::by_refusal))]
 fn query_file(alloc: Global, name: &[u8], query: &Query, bytes: &[u8]) -> Result<Outcome, Memory>
     ensures { IfOk result (OnObject name.now bytes.now (RepliesOnObject name.now query.now)) }
 {
-    match decode(alloc, bytes) {
+    match object_of(alloc, name, bytes)? {
         Ok(object) => on_object(alloc, name, query, &object),
-        Err(Refused::At(fault)) => refused(alloc, name, fault),
-        Err(Refused::Memory) => Err(Memory),
+        Err(outcome) => Ok(outcome),
     }
 }
 
@@ -78,13 +90,13 @@ fn check_object(alloc: Global, name: &[u8], object: &Object) -> Result<Outcome, 
 }
 
 /// How much the bytes of a file have.
+#[tactic(auto, using(crate::proofs::ReplyLemmas::by_object, crate::proofs::ReplyLemmas::by_refusal))]
 fn check_file(alloc: Global, name: &[u8], bytes: &[u8]) -> Result<Outcome, Memory>
     ensures { IfOk result (OnObject name.now bytes.now (Checks name.now)) }
 {
-    match decode(alloc, bytes) {
+    match object_of(alloc, name, bytes)? {
         Ok(object) => check_object(alloc, name, &object),
-        Err(Refused::At(fault)) => refused(alloc, name, fault),
-        Err(Refused::Memory) => Err(Memory),
+        Err(outcome) => Ok(outcome),
     }
 }
 
@@ -95,13 +107,13 @@ fn dump_object(alloc: Global, object: &Object) -> Result<Outcome, Memory>
 }
 
 /// The dump of the bytes of a file.
+#[tactic(auto, using(crate::proofs::ReplyLemmas::by_object, crate::proofs::ReplyLemmas::by_refusal))]
 fn dump_file(alloc: Global, name: &[u8], bytes: &[u8]) -> Result<Outcome, Memory>
     ensures { IfOk result (OnObject name.now bytes.now Dumps) }
 {
-    match decode(alloc, bytes) {
+    match object_of(alloc, name, bytes)? {
         Ok(object) => dump_object(alloc, &object),
-        Err(Refused::At(fault)) => refused(alloc, name, fault),
-        Err(Refused::Memory) => Err(Memory),
+        Err(outcome) => Ok(outcome),
     }
 }
 
@@ -112,13 +124,13 @@ fn list_object(alloc: Global, object: &Object) -> Result<Outcome, Memory>
 }
 
 /// The assembly of the bytes of a file.
+#[tactic(auto, using(crate::proofs::ReplyLemmas::by_object, crate::proofs::ReplyLemmas::by_refusal))]
 fn list_file(alloc: Global, name: &[u8], bytes: &[u8]) -> Result<Outcome, Memory>
     ensures { IfOk result (OnObject name.now bytes.now Lists) }
 {
-    match decode(alloc, bytes) {
+    match object_of(alloc, name, bytes)? {
         Ok(object) => list_object(alloc, &object),
-        Err(Refused::At(fault)) => refused(alloc, name, fault),
-        Err(Refused::Memory) => Err(Memory),
+        Err(outcome) => Ok(outcome),
     }
 }
 

@@ -3,7 +3,7 @@
 ghost use Rattle.std.specs.Prelude.{◌≡◌, ℕ, nat_lt, length};
 ghost use Rattle.std.specs.List.{sum_by};
 ghost use Rattle.file_commands.specs.Causes.{seen};
-ghost use Rattle.file_commands.specs.Inputs.{few_inputs, loaded_inputs, HasLoaded};
+ghost use Rattle.file_commands.specs.Inputs.{loaded_inputs, HasLoaded};
 
 use command_line::MOST_NAMES;
 use outside::{Files, Loaded};
@@ -46,35 +46,6 @@ fn passes(texts: &[Text], total: u64) -> bool
     false
 }
 
-/// Loads names in order, to the first that fails: each for at most `most` bytes, and `total` bytes together.
-fn load_few<F: Files>(
-    alloc: Global,
-    names: &[Text],
-    most: u64,
-    total: u64,
-    files: &mut F,
-) -> Result<Inputs, Memory>
-    ensures { HasLoaded (λ m. few_inputs m most total names.now)
-        (seen (F.held files.old) (F.load_faults files.old) (F.store_faults files.old) (F.last_failed files.old))
-        (seen (F.held files.new) (F.load_faults files.new) (F.store_faults files.new) (F.last_failed files.new)) names.now result }
-{
-    let mut texts = List::new(alloc);
-    for (at, name) in names.iter().enumerate() {
-        match files.load(alloc, name.copy(alloc)?, most) {
-            Loaded::Bytes(text) => texts.push(text)?,
-            Loaded::Absent => return Ok(Inputs::Fault(at, Cause::Absent)),
-            Loaded::Long => return Ok(Inputs::Fault(at, Cause::Long)),
-            Loaded::Failed => return Ok(Inputs::Fault(at, Cause::Failed)),
-            Loaded::Memory => return Err(Memory),
-        }
-    }
-    if passes(texts.items(), total) {
-        Ok(Inputs::TooMuch)
-    } else {
-        Ok(Inputs::All(texts))
-    }
-}
-
 /// Loads all names in order, to the first that fails, unless they are too many: each for at most `most` bytes, and `total` bytes
 /// together. Takes memory for the texts; out of memory is an answer of its own.
 pub fn load_all<F: Files>(
@@ -91,8 +62,19 @@ pub fn load_all<F: Files>(
     if names.len() as u64 > MOST_NAMES {
         return Ok(Inputs::TooMany);
     }
-    match load_few(alloc, names, most, total, files) {
-        Ok(inputs) => Ok(inputs),
-        Err(why) => Err(why),
+    let mut texts = List::new(alloc);
+    for (at, name) in names.iter().enumerate() {
+        match files.load(alloc, name.copy(alloc)?, most) {
+            Loaded::Bytes(text) => texts.push(text)?,
+            Loaded::Absent => return Ok(Inputs::Fault(at, Cause::Absent)),
+            Loaded::Long => return Ok(Inputs::Fault(at, Cause::Long)),
+            Loaded::Failed => return Ok(Inputs::Fault(at, Cause::Failed)),
+            Loaded::Memory => return Err(Memory),
+        }
+    }
+    if passes(texts.items(), total) {
+        Ok(Inputs::TooMuch)
+    } else {
+        Ok(Inputs::All(texts))
     }
 }

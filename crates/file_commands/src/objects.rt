@@ -58,7 +58,7 @@ impl Objects {
 }
 
 /// The object that the bytes of a file spell.
-fn read_object(alloc: Global, bytes: &[u8]) -> Result<Object, Refused>
+pub fn read_object(alloc: Global, bytes: &[u8]) -> Result<Object, Refused>
     ensures found { IfOk result (Spells bytes.now) }
     ensures refused { (f : FaultValue) → result ≡ Err (Refused.At f) → SpellsNone bytes.now f }
 {
