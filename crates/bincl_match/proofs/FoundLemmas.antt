@@ -12,7 +12,7 @@ use Rattle.stab_units.specs.Outlines.{units_of}
 use Rattle.stab_units.specs.Units.{AreUnitsOf, Filed, MakesUnit, Stab, header_name}
 use Rattle.bincl_match.specs.declared.range.RangeOf.{RangeOf}
 use Rattle.bincl_match.specs.Ranges.{AreFound, AreFoundButUnits, AreItems, in_unit, is_typed, range_of, ranges_from, typed_ranges, unit_ranges}
-use Rattle.bincl_match.specs.Reading.{unit_numbers, with_units}
+use Rattle.bincl_match.specs.Reading.{beside, unit_numbers, with_unit}
 use Rattle.bincl_match.proofs.ListLemmas.{drop_item}
 use Rattle.bincl_match.proofs.ReadLemmas.{files_count}
 use Rattle.bincl_match.proofs.SpanLemmas.{few_total, total}
@@ -77,19 +77,19 @@ numbers_step out out_new whole spans headers at s lt is same pushed was =
     ∙ ap (λ (z : List UnitSpan). out ++ unit_numbers at z) (sym (drop_item spans at s lt is)) ∙ was
 
 -- whatever number it had
-any_unit : (xs : List RangeOf) (ns : List ℕ) → with_units (map (in_unit 0) xs) ns ≡ with_units xs ns
+any_unit : (xs : List RangeOf) (ns : List ℕ) → beside with_unit (map (in_unit 0) xs) ns ≡ beside with_unit xs ns
 any_unit [] ns = refl
 any_unit (x ∷ xs) [] = refl
 any_unit (x ∷ xs) (n ∷ ns) = ap (λ (z : List RangeOf). in_unit n x ∷ z) (any_unit xs ns)
 
 -- there are no more of them
-with_few : (xs : List RangeOf) (ns : List ℕ) → length (with_units xs ns) ≤ length xs
+with_few : (xs : List RangeOf) (ns : List ℕ) → length (beside with_unit xs ns) ≤ length xs
 with_few [] ns = lit≤ tt
 with_few (x ∷ xs) [] = omega arith
 with_few (x ∷ xs) (n ∷ ns) = let h = with_few xs ns in omega arith
 
 -- nor than entries
-pub placed_few : (end n : ℕ) (entries : List Named) (xs placed : List RangeOf) (numbers : List ℕ) → AreFoundButUnits end entries xs → placed ≡ with_units xs numbers → length entries < n → length placed < n
+pub placed_few : (end n : ℕ) (entries : List Named) (xs placed : List RangeOf) (numbers : List ℕ) → AreFoundButUnits end entries xs → placed ≡ beside with_unit xs numbers → length entries < n → length placed < n
 placed_few end n entries xs placed numbers found is few =
     let a = found_few end n entries xs found few in
     let b = with_few xs numbers in
@@ -97,7 +97,7 @@ placed_few end n entries xs placed numbers found is few =
 
 -- the ranges of a unit have it
 has_unit : (n f : ℕ) (hs : List HeaderFile) (fs : List Filed) (ms : List HeaderMark) (xs : List RangeOf) (ns : List ℕ) → length hs ≡ length ms
-    → with_units (ranges_from n f hs fs ++ xs) (map (λ m. n) ms ++ ns) ≡ ranges_from n f hs fs ++ with_units xs ns
+    → beside with_unit (ranges_from n f hs fs ++ xs) (map (λ m. n) ms ++ ns) ≡ ranges_from n f hs fs ++ beside with_unit xs ns
 has_unit n f [] fs [] xs ns l = refl
 has_unit n f [] fs (m ∷ ms) xs ns l = absurd (omega arith)
 has_unit n f (h ∷ hs) fs [] xs ns l = absurd (omega arith)
@@ -105,7 +105,7 @@ has_unit n f (h ∷ hs) fs (m ∷ ms) xs ns l = ap (λ (z : List RangeOf). range
 
 -- those of all units have them
 have_units : (entries : List Named) (n : ℕ) (spans : List UnitSpan) (us : List Unit) (items : List (List Filed)) → AreUnitsOf entries spans us → AreItems entries spans items
-    → with_units (typed_ranges n us items) (unit_numbers n spans) ≡ typed_ranges n us items
+    → beside with_unit (typed_ranges n us items) (unit_numbers n spans) ≡ typed_ranges n us items
 have_units entries n [] [] items are read = refl
 have_units entries n [] (u ∷ us) items are read = absurd are
 have_units entries n (s ∷ spans) [] items are read = absurd are
@@ -120,17 +120,17 @@ found_known end entries xs found = (xs, found, refl)
 
 -- so ranges that are known but for the numbers of units are found with these numbers
 pub placed_are : (end : ℕ) (entries : List Named) (xs placed : List RangeOf) (spans : List UnitSpan) (numbers items : List ℕ) → AreFoundButUnits end entries xs → spans ≡ units_of end entries
-    → numbers ≡ unit_numbers 0 spans → items ≡ numbers → placed ≡ with_units xs items → AreFound end entries placed
+    → numbers ≡ unit_numbers 0 spans → items ≡ numbers → placed ≡ beside with_unit xs items → AreFound end entries placed
 placed_are end entries xs placed spans numbers items found is are same placed_is =
     let f = found.1 in
-    let those : with_units xs (unit_numbers 0 (units_of end entries)) ≡ typed_ranges 0 f.units f.items =
-    sym (any_unit xs (unit_numbers 0 (units_of end entries))) ∙ ap (λ (z : List RangeOf). with_units z (unit_numbers 0 (units_of end entries))) found.2
-    ∙ any_unit found.0 (unit_numbers 0 (units_of end entries)) ∙ ap (λ (z : List RangeOf). with_units z (unit_numbers 0 (units_of end entries))) f.are
+    let those : beside with_unit xs (unit_numbers 0 (units_of end entries)) ≡ typed_ranges 0 f.units f.items =
+    sym (any_unit xs (unit_numbers 0 (units_of end entries))) ∙ ap (λ (z : List RangeOf). beside with_unit z (unit_numbers 0 (units_of end entries))) found.2
+    ∙ any_unit found.0 (unit_numbers 0 (units_of end entries)) ∙ ap (λ (z : List RangeOf). beside with_unit z (unit_numbers 0 (units_of end entries))) f.are
     ∙ have_units entries 0 (units_of end entries) f.units f.items f.are_units.are f.are_items in
     record {
       units = f.units;
       are_units = f.are_units;
       items = f.items;
       are_items = f.are_items;
-      are = placed_is ∙ ap (with_units xs) (same ∙ are ∙ ap (unit_numbers 0) is) ∙ those;
+      are = placed_is ∙ ap (beside with_unit xs) (same ∙ are ∙ ap (unit_numbers 0) is) ∙ those;
     }

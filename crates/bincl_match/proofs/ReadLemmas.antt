@@ -11,10 +11,10 @@ use Rattle.stab_units.specs.declared.unit.Unit.{Unit}
 use Rattle.stab_units.specs.Words.{behind_first}
 use Rattle.stab_units.specs.Units.{Stab, Filed, AreRead, MakesUnit, SpansFault, files_from, file_of, header_name, parsed, parsed_in, stabs_from, stabs_of, symbols_at, unit_of}
 use Rattle.bincl_match.specs.declared.range.RangeOf.{RangeOf}
-use Rattle.bincl_match.specs.Ranges.{AreItems, among, in_unit, is_repeated, is_typed, range_of, ranges_from, typed_ranges, unit_ranges}
+use Rattle.bincl_match.specs.Ranges.{AreItems, among, is_repeated, is_typed, range_of, ranges_from, typed_ranges, unit_ranges}
 use Rattle.bincl_match.specs.Owning.{AreReady, names_type}
 use Rattle.bincl_match.specs.Crowding.{AreCrowded}
-use Rattle.bincl_match.specs.Reading.{AreTyped, HasRanges, HaveRanges, ready_ranges, units_with, with_flag, with_flags, with_units}
+use Rattle.bincl_match.specs.Reading.{AreTyped, HasRanges, HaveRanges, beside, ready_ranges, units_with, with_flag}
 use Rattle.bincl_match.proofs.ListLemmas.{drop_item, none_is, some_is}
 use Rattle.bincl_match.proofs.OwnLemmas.{typed_items}
 
@@ -94,7 +94,7 @@ ranges_all entries all left n start ranges steps is was =
     let c = was.counted in
     (subst (λ (z : List RangeOf). AreTyped entries all z) (append-nil ranges) last, omega arith)
 
--- ---- flags
+-- ---- ranges that are changed
 
 -- a range that is taken out leaves a blank one
 pub flag_length : (rs new : List RangeOf) (at n : ℕ) (blank : RangeOf) → new ≡ slice_set rs at blank → length rs ≡ n → length new ≡ n
@@ -107,41 +107,28 @@ drop_get (y ∷ rs) zero x e = ap (λ (z : RangeOf). z ∷ rs) (some_is (Some y)
 drop_get (y ∷ rs) (suc k) x e = let h : suc k + 1 ≡ suc (k + 1) = omega arith in drop_get rs k x e ∙ ap (λ (z : ℕ). x ∷ drop z (y ∷ rs)) (sym h)
 
 -- one more range is made of one that is taken out and of what stands beside it
-pub beside_step : {B : Type 0} (f : RangeOf → B → RangeOf) (all : List RangeOf → List B → List RangeOf) → ((x : RangeOf) (b : B) (xs : List RangeOf) (bs : List B) → all (x ∷ xs) (b ∷ bs) ≡ f x b ∷ all xs bs)
-    → (out out_new whole rs rs_new : List RangeOf) (bs : List B) (at : ℕ) (x made blank : RangeOf) (b : B) → at < length bs → slice_get rs at ≡ Some x → b ≡ get_or bs at b
-    → rs_new ≡ slice_set rs at blank → made ≡ f x b → out_new ≡ out ++ made ∷ [] → out ++ all (drop at rs) (drop at bs) ≡ whole
-    → out_new ++ all (drop (at + 1) rs_new) (drop (at + 1) bs) ≡ whole
-beside_step f all first out out_new whole rs rs_new bs at x made blank b lt is b_is set made_is pushed was =
-    ap (λ (z : List RangeOf). z ++ all (drop (at + 1) rs_new) (drop (at + 1) bs)) pushed
-    ∙ append_assoc out (made ∷ []) (all (drop (at + 1) rs_new) (drop (at + 1) bs))
-    ∙ ap (λ (z : List RangeOf). out ++ made ∷ all z (drop (at + 1) bs)) (ap (drop (at + 1)) set ∙ drop-set-lt (at + 1) rs at blank (omega arith))
-    ∙ ap (λ (z : RangeOf). out ++ z ∷ all (drop (at + 1) rs) (drop (at + 1) bs)) made_is
-    ∙ ap (λ (z : List RangeOf). out ++ z) (sym (ap (λ (z : List RangeOf). all z (drop at bs)) (drop_get rs at x is)
-    ∙ ap (all (x ∷ drop (at + 1) rs)) (drop_item bs at b lt b_is) ∙ first x b (drop (at + 1) rs) (drop (at + 1) bs)))
+pub beside_step : {B : Type 0} (f : RangeOf → B → RangeOf) (out out_new whole rs rs_new : List RangeOf) (bs : List B) (at : ℕ) (x made blank : RangeOf) (b : B)
+    → at < length bs → slice_get rs at ≡ Some x → b ≡ get_or bs at b → rs_new ≡ slice_set rs at blank → made ≡ f x b → out_new ≡ out ++ made ∷ []
+    → out ++ beside f (drop at rs) (drop at bs) ≡ whole → out_new ++ beside f (drop (at + 1) rs_new) (drop (at + 1) bs) ≡ whole
+beside_step f out out_new whole rs rs_new bs at x made blank b lt is b_is set made_is pushed was =
+    ap (λ (z : List RangeOf). z ++ beside f (drop (at + 1) rs_new) (drop (at + 1) bs)) pushed
+    ∙ append_assoc out (made ∷ []) (beside f (drop (at + 1) rs_new) (drop (at + 1) bs))
+    ∙ ap (λ (z : List RangeOf). out ++ made ∷ beside f z (drop (at + 1) bs)) (ap (drop (at + 1)) set ∙ drop-set-lt (at + 1) rs at blank (omega arith))
+    ∙ ap (λ (z : RangeOf). out ++ z ∷ beside f (drop (at + 1) rs) (drop (at + 1) bs)) made_is
+    ∙ ap (λ (z : List RangeOf). out ++ z) (sym (ap (λ (z : List RangeOf). beside f z (drop at bs)) (drop_get rs at x is)
+    ∙ ap (beside f (x ∷ drop (at + 1) rs)) (drop_item bs at b lt b_is)))
     ∙ was
-
--- one more range is told
-pub flag_step : (out out_new whole rs rs_new : List RangeOf) (flags : List Bool) (at : ℕ) (x made blank : RangeOf) (b : Bool) → at < length flags → slice_get rs at ≡ Some x → b ≡ get_or flags at b
-    → rs_new ≡ slice_set rs at blank → made ≡ with_flag x b → out_new ≡ out ++ made ∷ [] → out ++ with_flags (drop at rs) (drop at flags) ≡ whole
-    → out_new ++ with_flags (drop (at + 1) rs_new) (drop (at + 1) flags) ≡ whole
-flag_step = beside_step with_flag with_flags (λ x b xs bs. refl)
-
--- one more range gets the number of its unit
-pub unit_step : (out out_new whole rs rs_new : List RangeOf) (numbers : List ℕ) (at : ℕ) (x made blank : RangeOf) (n : ℕ) → at < length numbers → slice_get rs at ≡ Some x → n ≡ get_or numbers at n
-    → rs_new ≡ slice_set rs at blank → made ≡ in_unit n x → out_new ≡ out ++ made ∷ [] → out ++ with_units (drop at rs) (drop at numbers) ≡ whole
-    → out_new ++ with_units (drop (at + 1) rs_new) (drop (at + 1) numbers) ≡ whole
-unit_step = beside_step (λ x n. in_unit n x) with_units (λ x n xs ns. refl)
 
 -- flags that tell what is repeated, one range after another
 flags_among : (all xs : List RangeOf) (flags : List Bool) → length flags ≡ length xs → ((i : ℕ) (x : RangeOf) → slice_get xs i ≡ Some x → slice_get flags i ≡ Some (is_repeated x all))
-    → with_flags xs flags ≡ map (among all) xs
+    → beside with_flag xs flags ≡ map (among all) xs
 flags_among all [] flags long each = refl
 flags_among all (x ∷ xs) [] long each = absurd (omega arith)
 flags_among all (x ∷ xs) (b ∷ flags) long each =
     let same : b ≡ is_repeated x all = some_is (Some b) b (is_repeated x all) refl (each zero x refl) in
-    ap (λ (z : Bool). with_flag x z ∷ with_flags xs flags) same
+    ap (λ (z : Bool). with_flag x z ∷ beside with_flag xs flags) same
     ∙ ap (λ (z : List RangeOf). among all x ∷ z) (flags_among all xs flags (omega arith) (λ i y e. each (suc i) y e))
 
 -- flags that tell what is repeated make the ranges among all
-pub told_is : (typed ranges : List RangeOf) (flags items : List Bool) → AreCrowded typed flags → items ≡ flags → ranges ≡ with_flags typed items → ranges ≡ map (among typed) typed
-told_is typed ranges flags items crowded same is = is ∙ ap (with_flags typed) same ∙ flags_among typed typed flags crowded.count crowded.each
+pub told_is : (typed ranges : List RangeOf) (flags items : List Bool) → AreCrowded typed flags → items ≡ flags → ranges ≡ beside with_flag typed items → ranges ≡ map (among typed) typed
+told_is typed ranges flags items crowded same is = is ∙ ap (beside with_flag typed) same ∙ flags_among typed typed flags crowded.count crowded.each

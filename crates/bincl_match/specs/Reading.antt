@@ -44,17 +44,17 @@ pub record HaveRanges (entries : List Named) (all left : List UnitSpan) (n start
   pub fault : (f : Fault) → SpansFault entries left f → SpansFault entries all f
   pub counted : steps + parsed_in entries left ≡ start + parsed_in entries all
 
--- ---- candidates
+-- ---- ranges that are changed
+
+-- ranges, each changed by what stands beside it
+abbrev pub beside : {B : Type 0} → (RangeOf → B → RangeOf) → List RangeOf → List B → List RangeOf
+beside change [] bs = []
+beside change (x ∷ xs) [] = []
+beside change (x ∷ xs) (b ∷ bs) = change x b ∷ beside change xs bs
 
 -- the range, no candidate where the flag is set
 abbrev pub with_flag : RangeOf → Bool → RangeOf
 with_flag x b = record { unit = x.unit; file = x.file; name = x.name; shape = x.shape; numbers = x.numbers; sum = x.sum; candidate = x.candidate && not b }
-
--- ranges with a flag for each
-abbrev pub with_flags : List RangeOf → List Bool → List RangeOf
-with_flags [] flags = []
-with_flags (x ∷ xs) [] = []
-with_flags (x ∷ xs) (b ∷ flags) = with_flag x b ∷ with_flags xs flags
 
 -- ---- units of ranges that are known
 
@@ -63,8 +63,6 @@ abbrev pub unit_numbers : ℕ → List UnitSpan → List ℕ
 unit_numbers n [] = []
 unit_numbers n (s ∷ spans) = map (λ h. n) s.headers ++ unit_numbers (n + 1) spans
 
--- ranges with the number of a unit for each
-abbrev pub with_units : List RangeOf → List ℕ → List RangeOf
-with_units [] numbers = []
-with_units (x ∷ xs) [] = []
-with_units (x ∷ xs) (n ∷ numbers) = in_unit n x ∷ with_units xs numbers
+-- the range, with the number of its unit
+abbrev pub with_unit : RangeOf → ℕ → RangeOf
+with_unit x n = in_unit n x

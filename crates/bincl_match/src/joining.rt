@@ -1,10 +1,11 @@
 //! The ranges of entries of which they are known but for the numbers of units.
 
-ghost use Rattle.std.specs.Prelude.{◌≡◌, ◌<◌, ◌≤◌, ◌^◌, ◌++◌, length, map, IfOk, OnOk};
+ghost use Rattle.std.specs.Prelude.{◌≡◌, ◌<◌, ◌^◌, ◌++◌, length, map, IfOk, OnOk};
 ghost use Rattle.bincl_match.specs.Lawful.{IsLawful};
 ghost use Rattle.bincl_match.specs.Ranges.{AreFoundButUnits, AreRanges};
-ghost use Rattle.bincl_match.specs.Reading.{unit_numbers, with_units};
+ghost use Rattle.bincl_match.specs.Reading.{unit_numbers};
 
+use crate::beside::all_changed;
 use crate::range::RangeOf;
 use crate::reading::told;
 use nlist_codec::Named;
@@ -34,23 +35,6 @@ fn all_numbers(alloc: Global, spans: &[UnitSpan]) -> Result<List<u32>, Memory>
     Ok(out)
 }
 
-// Ranges with the number of a unit for each.
-fn all_placed(
-    alloc: Global,
-    mut ranges: List<RangeOf>,
-    numbers: &[u32],
-) -> Result<List<RangeOf>, Memory>
-    requires { length numbers.now ≡ length ranges }
-    ensures { IfOk result (λ out. out ≡ with_units ranges numbers.now) }
-{
-    let mut out = List::new(alloc);
-    for at in 0..numbers.len() {
-        let range = ranges.replace(at, RangeOf::blank(alloc));
-        out.push(range.in_unit(numbers[at]))?;
-    }
-    Ok(out)
-}
-
 /// The header ranges of entries of which they are known but for the numbers of their units, as where several lists stand one behind
 /// the other. No string is parsed.
 ///
@@ -73,7 +57,7 @@ pub fn join_ranges(
     match outline(alloc, entries, text_end, Marks::Object) {
         Ok(spans) => {
             let numbers = all_numbers(alloc, spans.items())?;
-            let placed = all_placed(alloc, found, numbers.items())?;
+            let placed = all_changed(alloc, found, numbers.items())?;
             let ranges = told(alloc, placed)?;
             Ok(ranges)
         }

@@ -21,6 +21,7 @@
 //! ```
 #![tactic(auto)]
 
+mod beside;
 mod crowd;
 mod groups;
 mod instances;

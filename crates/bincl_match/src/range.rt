@@ -1,7 +1,6 @@
 //! A header range, and which ranges are kept.
 
 ghost use Rattle.std.specs.Prelude.{◌≡◌, IfOk};
-ghost use Rattle.bincl_match.specs.Ranges.{in_unit};
 
 use st_base::{List, Memory, Text};
 use std::alloc::Global;
@@ -80,30 +79,6 @@ impl RangeOf {
             numbers: List::new(alloc),
             sum: 0,
             candidate: false,
-        }
-    }
-
-    // The range with this number as that of its unit.
-    pub(crate) fn in_unit(self, number: u32) -> RangeOf
-        ensures { result ≡ in_unit number self }
-    {
-        let RangeOf {
-            unit: _,
-            file,
-            name,
-            shape,
-            numbers,
-            sum,
-            candidate,
-        } = self;
-        RangeOf {
-            unit: number,
-            file,
-            name,
-            shape,
-            numbers,
-            sum,
-            candidate,
         }
     }
 }

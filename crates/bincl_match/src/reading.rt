@@ -1,6 +1,6 @@
 //! The ranges of all units of an entry list.
 
-ghost use Rattle.std.specs.Prelude.{◌≡◌, ◌+◌, ◌<◌, ◌≤◌, ◌^◌, ◌&&◌, not, ℕ, Err, Some, None, length, map, slice_get, IfOk, OnOk};
+ghost use Rattle.std.specs.Prelude.{◌≡◌, ◌+◌, ◌<◌, ◌≤◌, ◌^◌, ℕ, Err, Some, None, length, map, slice_get, IfOk, OnOk};
 ghost use Rattle.st_base.specs.declared.fault.Fault.{Fault};
 ghost use Rattle.st_base.specs.declared.fault.Refused.{Refused};
 ghost use Rattle.stab_units.specs.declared.outline_types.UnitSpan.{UnitSpan as SomeSpan};
@@ -10,8 +10,9 @@ ghost use Rattle.stab_units.specs.Units.{SpansFault, UnitFault, parsed, parsed_i
 ghost use Rattle.stab_units.specs.Worlds.{UnitsFault, strings_in};
 ghost use Rattle.bincl_match.specs.Lawful.{IsLawful};
 ghost use Rattle.bincl_match.specs.Ranges.{AreFound, AreRanges, among};
-ghost use Rattle.bincl_match.specs.Reading.{AreTyped, HasRanges, with_flag, with_flags};
+ghost use Rattle.bincl_match.specs.Reading.{AreTyped, HasRanges};
 
+use crate::beside::all_changed;
 use crate::crowd::crowded;
 use crate::range::RangeOf;
 use crate::unit_ranges::put_unit;
@@ -73,53 +74,13 @@ fn read_spans<L: Ledger>(
 
 // ---- candidates
 
-fn flagged(range: RangeOf, flag: bool) -> RangeOf
-    ensures { result ≡ with_flag range flag }
-{
-    let RangeOf {
-        unit,
-        file,
-        name,
-        shape,
-        numbers,
-        sum,
-        candidate,
-    } = range;
-    RangeOf {
-        unit,
-        file,
-        name,
-        shape,
-        numbers,
-        sum,
-        candidate: candidate && !flag,
-    }
-}
-
-// Ranges with a flag for each.
-fn all_flagged(
-    alloc: Global,
-    mut ranges: List<RangeOf>,
-    flags: &[bool],
-) -> Result<List<RangeOf>, Memory>
-    requires { length flags.now ≡ length ranges }
-    ensures { IfOk result (λ out. out ≡ with_flags ranges flags.now) }
-{
-    let mut out = List::new(alloc);
-    for at in 0..flags.len() {
-        let range = ranges.replace(at, RangeOf::blank(alloc));
-        out.push(flagged(range, flags[at]))?;
-    }
-    Ok(out)
-}
-
 /// The same ranges, of which none is a candidate whose name and shape some unit has twice.
 pub(crate) fn told(alloc: Global, typed: List<RangeOf>) -> Result<List<RangeOf>, Memory>
     requires { length typed < 2 ^ 32 }
     ensures { IfOk result (λ ranges. ranges ≡ map (among typed) typed) }
 {
     let flags = crowded(alloc, typed.items())?;
-    let ranges = all_flagged(alloc, typed, flags.items())?;
+    let ranges = all_changed(alloc, typed, flags.items())?;
     Ok(ranges)
 }
 
@@ -174,14 +135,9 @@ pub fn find_ranges<L: Ledger>(
     }
 }
 
-/// All header ranges of the entries of an object, in image order: unit by unit, and in a unit by the numbers of the files.
-///
-/// `text_end` is the address behind the text. A range is the header that an N_BINCL opens, with the shapes, files and sum of the
-/// symbols of its file. It is a candidate exactly where each stab of its file, header marks apart, is that of an N_LSYM type symbol
-/// (`t`, `T` or `Tt`), and no unit has two ranges with its name and shape. Refused with the fault of the outline, else with the fault
-/// of the first string that spells no symbol, as by `units`. One step is taken for each string that is parsed. Takes memory for the
-/// ranges, and for one unit at a time; out of memory is its own answer. After "The stabs debug format"; shapes, sums and candidates are
-/// this project's own.
+/// All header ranges of the entries of an object, as `find_ranges` finds them, but that none is a candidate whose name and shape some
+/// unit has twice. It is refused and takes steps and memory as that call. After "The stabs debug format"; candidates are this project's
+/// own.
 pub fn ranges<L: Ledger>(
     alloc: Global,
     entries: &List<Named>,

@@ -11,8 +11,8 @@ all_numbers-requires c =
     let f = few_spans c.args.text_end [] 0 c.args.entries.now in omega (arith, c.requires.few)
 
 -- a number for each range
-pub all_placed-requires : goal.all_placed-requires
-all_placed-requires c =
+pub all_changed-requires : goal.all_changed-requires
+all_changed-requires c =
     ap length c.items-in-Ok.ensures
     ∙ numbers_count c.args.text_end c.args.entries.now c.args.found c.items.result.now c.in_ok-numbers-in-Ok.numbers c.requires.found (c.items.ensures ∙ c.in-Ok.ensures.found.1) c.in_ok-numbers-in-Ok.ensures
 
