@@ -28,6 +28,6 @@ pub use laws::{
 pub use nest::Nest;
 pub use outline_types::{HeaderMark, Marks, UnitSpan};
 pub use outlines::outline;
-pub use reading::{read_unit, units};
+pub use reading::{read_spans, read_unit, units};
 pub use stack::Stack;
 pub use unit::{HeaderFile, Item, ItemText, Unit};

@@ -174,8 +174,9 @@ fn push_unit<L: Ledger>(
     }
 }
 
-// The units of spans, in order.
-fn read_spans<L: Ledger>(
+/// The units of spans that `outline` gave for these entries, in order, each as by `read_unit`. Refused with the fault of the first that has
+/// one. One step is taken for each string that is parsed. Takes memory for the units; out of memory is its own answer.
+pub fn read_spans<L: Ledger>(
     alloc: Global,
     entries: &List<Named>,
     spans: &[UnitSpan],

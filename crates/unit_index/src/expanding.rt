@@ -10,11 +10,10 @@ ghost use Rattle.unit_index.specs.Filling.{units_with, AsMany, AreFull};
 
 use crate::filling::filled_units;
 use crate::index::Index;
-use crate::reading::read_spans;
 use crate::taking::all_taken;
 use nlist_codec::Named;
 use st_base::{List, Memory, Refused, Steps};
-use stab_units::Unit;
+use stab_units::{Unit, read_spans};
 use std::alloc::Global;
 use std::sync::ledger::Ledger;
 use type_graph::{World, externals};

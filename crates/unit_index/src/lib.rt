@@ -8,7 +8,6 @@ mod filling;
 mod index;
 mod laws;
 mod owner;
-mod reading;
 mod tables;
 mod taking;
 
