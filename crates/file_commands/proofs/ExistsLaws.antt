@@ -34,7 +34,7 @@ use Rattle.command_line.specs.declared.limits.TheConstants.{MOST_NAMES}
 use Rattle.file_commands.specs.declared.outcome.Outcome.{Outcome}
 use Rattle.file_commands.specs.declared.outcome.TheConstants.{DONE}
 use Rattle.stabs_asm.specs.Assembling.{assembled}
-use Rattle.stabs_asm.specs.Lines.{read_source}
+use Rattle.asm_statements.specs.Lines.{read_source}
 use Rattle.stabs_asm.specs.Listing.{listing}
 use Rattle.file_commands.specs.Checking.{check_text}
 use Rattle.file_commands.specs.Dump.{dump_text}

@@ -9,7 +9,7 @@ use Rattle.aout_object.specs.Objects.{named_of, file_of}
 use Rattle.aout_object.specs.Objects.{Contents as Object}
 use Rattle.st_base.specs.declared.fault.TheConstants.{TOO_LARGE}
 use Rattle.stabs_asm.specs.Assembling.{assembled}
-use Rattle.stabs_asm.specs.Lines.{read_source}
+use Rattle.asm_statements.specs.Lines.{read_source}
 use Rattle.stabs_asm.specs.Listing.{listing}
 use Rattle.file_commands.specs.Checking.{check_text}
 use Rattle.file_commands.specs.Dump.{dump_text}

@@ -13,7 +13,7 @@ use Rattle.unit_index.specs.Expanding.{IsExpanded, ExpandFault}
 use Rattle.query_text.specs.declared.query.Query.{Query}
 use Rattle.query_text.specs.Replies as replies
 use Rattle.stabs_asm.specs.Assembling.{assembled}
-use Rattle.stabs_asm.specs.Lines.{read_source}
+use Rattle.asm_statements.specs.Lines.{read_source}
 use Rattle.stabs_asm.specs.Listing.{listing}
 use Rattle.command_line.specs.declared.command.Command.{Command}
 use Rattle.command_line.specs.declared.command.Command.TheVariants as commands

@@ -8,7 +8,7 @@ ghost use Rattle.file_commands.specs.Outcomes as outcomes;
 ghost use Rattle.command_line.specs.Words as words;
 ghost use Rattle.file_commands.specs.Replies.{RepliesOnWorld, RepliesOnObject, OnObject, IsObjectOf, Counts, Checks, Dumps, Lists, Answers, RepliesTo, kept_object};
 ghost use Rattle.stabs_asm.specs.Assembling.{assembled};
-ghost use Rattle.stabs_asm.specs.Lines.{read_source};
+ghost use Rattle.asm_statements.specs.Lines.{read_source};
 
 use crate::asking::ask_files;
 use crate::checking::check_text;

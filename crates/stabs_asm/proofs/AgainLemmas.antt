@@ -10,7 +10,8 @@ use Rattle.nlist_codec.specs.declared.entry.Entry.{Entry}
 use Rattle.aout_object.specs.Making.{made, make_checks, kinds_checks, addresses_check, size_check}
 use Rattle.aout_object.specs.Objects.{Contents, ObjectFits, IsAccepted, all_named, named_of, file_of}
 use Rattle.aout_object.specs.declared.parts.Parts.{Parts}
-use Rattle.stabs_asm.specs.Assembling.{object_by, object_of, assembled}
+use Rattle.asm_objects.specs.Making.{object_by, object_of}
+use Rattle.stabs_asm.specs.Assembling.{assembled}
 use Rattle.stabs_asm.specs.Listing.{HoldsBytes, IsListed, IsAssembledAgain}
 use Rattle.stabs_asm.proofs.ReadBackLemmas.{is_listed}
 

@@ -3,10 +3,11 @@ use Rattle.std.proofs.Common.{◌≡◌, ℕ, true, false, List, [], ◌∷◌, 
 use Rattle.std.specs.Prelude.{codes}
 use Rattle.st_base.specs.Faults.{fault_at}
 use Rattle.st_base.specs.declared.order.Order.TheVariants.{Little, Big}
-use Rattle.stabs_asm.specs.Lines.{read_source}
-use Rattle.stabs_asm.specs.Meaning.{first_fault_of}
-use Rattle.stabs_asm.specs.Assembling.{parts_of, entries_of, assembled}
-use Rattle.stabs_asm.specs.declared.statement.Statement.{Statement}
+use Rattle.asm_statements.specs.Lines.{read_source}
+use Rattle.asm_objects.specs.Meaning.{first_fault_of}
+use Rattle.asm_objects.specs.Making.{parts_of, entries_of}
+use Rattle.stabs_asm.specs.Assembling.{assembled}
+use Rattle.asm_statements.specs.declared.statement.Statement.{Statement}
 
 statements : Result (List Statement) ℕ → List Statement
 statements (Ok ss) = ss

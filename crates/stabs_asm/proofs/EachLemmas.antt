@@ -6,15 +6,15 @@ use Rattle.st_base.specs.Number.{IsBytes}
 use Rattle.nlist_codec.specs.declared.named.Named.{Named}
 use Rattle.reloc.specs.declared.reloc.Reloc.{Reloc}
 use Rattle.aout_object.specs.Objects.{IsReloc}
-use Rattle.stabs_asm.specs.Layout.{each, after, moved, start, grown_in}
-use Rattle.stabs_asm.specs.Lines.{at_line}
+use Rattle.asm_objects.specs.Layout.{each, after, moved, start, grown_in}
+use Rattle.asm_statements.specs.Lines.{at_line}
 use Rattle.stabs_asm.specs.Listing.{cut_rows, rows_of}
-use Rattle.stabs_asm.specs.declared.statement.Part.{Part}
-use Rattle.stabs_asm.specs.declared.statement.Part.TheVariants as part
-use Rattle.stabs_asm.specs.declared.statement.What.{What}
-use Rattle.stabs_asm.specs.declared.statement.What.TheVariants as what
-use Rattle.stabs_asm.specs.declared.statement.Statement.{Statement}
-use Rattle.stabs_asm.specs.declared.table.Places.{Places}
+use Rattle.asm_statements.specs.declared.statement.Part.{Part}
+use Rattle.asm_statements.specs.declared.statement.Part.TheVariants as part
+use Rattle.asm_statements.specs.declared.statement.What.{What}
+use Rattle.asm_statements.specs.declared.statement.What.TheVariants as what
+use Rattle.asm_statements.specs.declared.statement.Statement.{Statement}
+use Rattle.asm_objects.specs.declared.table.Places.{Places}
 use Rattle.stabs_asm.proofs.ListLemmas.{NamedFits, stab_for, field_for, rel_for}
 use Rattle.stabs_asm.proofs.RowLemmas.{Listed, ListedFits, Row, numbered, byte_row, rel_row, entry_row, row_of, rows_for}
 

@@ -6,16 +6,16 @@ use Rattle.nlist_codec.specs.declared.named.Named.{Named}
 use Rattle.reloc.specs.declared.reloc.Reloc.{Reloc}
 use Rattle.reloc.specs.Relocs.{is_segment}
 use Rattle.aout_object.specs.Objects.{IsReloc}
-use Rattle.stabs_asm.specs.Layout.{each, after, start, table_of}
-use Rattle.stabs_asm.specs.Operands.{limit}
-use Rattle.stabs_asm.specs.Meaning as meaning
-use Rattle.stabs_asm.specs.Meaning.{fault_of, faults, first_fault_of, bytes_in, if_in, relocs_in, reloc_part, entries_in, undefined_of, outer, written}
+use Rattle.asm_objects.specs.Layout.{each, after, start, table_of}
+use Rattle.asm_statements.specs.Operands.{limit}
+use Rattle.asm_objects.specs.Meaning as meaning
+use Rattle.asm_objects.specs.Meaning.{fault_of, faults, first_fault_of, bytes_in, if_in, relocs_in, reloc_part, entries_in, undefined_of, outer, written}
 use Rattle.stabs_asm.specs.Listing.{flags_of}
-use Rattle.stabs_asm.specs.declared.statement.Part.{Part}
-use Rattle.stabs_asm.specs.declared.statement.Statement.{Statement}
-use Rattle.stabs_asm.specs.declared.table.Places.{Places}
-use Rattle.stabs_asm.specs.declared.table.Table.{Table}
-use Rattle.stabs_asm.specs.declared.check.Use.TheVariants as use'
+use Rattle.asm_statements.specs.declared.statement.Part.{Part}
+use Rattle.asm_statements.specs.declared.statement.Statement.{Statement}
+use Rattle.asm_objects.specs.declared.table.Places.{Places}
+use Rattle.asm_objects.specs.declared.table.Table.{Table}
+use Rattle.asm_objects.specs.declared.check.Use.TheVariants as use'
 use Rattle.stabs_asm.proofs.ListLemmas.{NamedFits, stab_for, field_for, rel_for, alone, plain, flags_small}
 use Rattle.stabs_asm.proofs.RowLemmas.{Listed, ListedFits}
 use Rattle.stabs_asm.proofs.EachLemmas.{Says, none, listed_statements, given_none}

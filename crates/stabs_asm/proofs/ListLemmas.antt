@@ -6,20 +6,20 @@ use Rattle.st_base.specs.Number.{IsBytes}
 use Rattle.nlist_codec.specs.declared.named.Named.{Named}
 use Rattle.reloc.specs.declared.reloc.Reloc.{Reloc}
 use Rattle.aout_object.specs.Objects.{IsReloc}
-use Rattle.stabs_asm.specs.Tokens.{Token, tokens, with_token}
-use Rattle.stabs_asm.specs.Tokens.Token.{Word, Str, Mark}
-use Rattle.stabs_asm.specs.Operands.{◌>>=◌, number_of, limit, sum_of, plain_of, pieces}
-use Rattle.stabs_asm.specs.Directives.{fields, stab_with}
-use Rattle.stabs_asm.specs.Lines.{line_of, statements_of}
-use Rattle.stabs_asm.specs.Meaning.{has_no_zero}
+use Rattle.asm_statements.specs.Tokens.{Token, tokens, with_token}
+use Rattle.asm_statements.specs.Tokens.Token.{Word, Str, Mark}
+use Rattle.asm_statements.specs.Operands.{◌>>=◌, number_of, limit, sum_of, plain_of, pieces}
+use Rattle.asm_statements.specs.Directives.{fields, stab_with}
+use Rattle.asm_statements.specs.Lines.{line_of, statements_of}
+use Rattle.asm_objects.specs.Meaning.{has_no_zero}
 use Rattle.stabs_asm.specs.Listing.{hex_byte, hex_word, bytes_on, byte_line, numbers_of, stabs_line, stabn_line, entry_line, line_for, rel_line, part_word, flags_of}
-use Rattle.stabs_asm.specs.declared.statement.Part.{Part}
-use Rattle.stabs_asm.specs.declared.statement.Part.TheVariants as part
-use Rattle.stabs_asm.specs.declared.statement.Sum.{Sum}
-use Rattle.stabs_asm.specs.declared.statement.Plain.{Plain}
-use Rattle.stabs_asm.specs.declared.statement.Width.TheVariants.{Byte}
-use Rattle.stabs_asm.specs.declared.statement.What.{What}
-use Rattle.stabs_asm.specs.declared.statement.What.TheVariants as what
+use Rattle.asm_statements.specs.declared.statement.Part.{Part}
+use Rattle.asm_statements.specs.declared.statement.Part.TheVariants as part
+use Rattle.asm_statements.specs.declared.statement.Sum.{Sum}
+use Rattle.asm_statements.specs.declared.statement.Plain.{Plain}
+use Rattle.asm_statements.specs.declared.statement.Width.TheVariants.{Byte}
+use Rattle.asm_statements.specs.declared.statement.What.{What}
+use Rattle.asm_statements.specs.declared.statement.What.TheVariants as what
 use Rattle.stabs_asm.proofs.TokenLemmas.{IsWord, a_word_read, string_read, decimal_word, hex_byte_word, hex_word_word, number_decimal, number_hex_byte, number_hex_word}
 
 -- an entry whose line is read back: it fits its fields, its kind is accepted, and its name is bytes of which none is zero

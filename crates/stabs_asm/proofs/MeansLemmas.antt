@@ -6,18 +6,18 @@ use Rattle.st_base.specs.ByteOrder.{is_big}
 use Rattle.nlist_codec.specs.declared.named.Named.{Named}
 use Rattle.reloc.specs.declared.reloc.Reloc.{Reloc}
 use Rattle.aout_object.specs.Objects.{IsReloc}
-use Rattle.stabs_asm.specs.Names.{with_word}
-use Rattle.stabs_asm.specs.Layout.{each, after, moved, start, end_of, table_of, grown_in, listed, entry_word, machine_word, bss_size, last}
-use Rattle.stabs_asm.specs.Meaning.{bytes_in, if_in, relocs_in, reloc_part, entries_in, undefined_of, outer, written}
-use Rattle.stabs_asm.specs.Assembling.{parts_of, entries_of}
+use Rattle.asm_objects.specs.Names.{with_word}
+use Rattle.asm_objects.specs.Layout.{each, after, moved, start, end_of, table_of, grown_in, listed, entry_word, machine_word, bss_size, last}
+use Rattle.asm_objects.specs.Meaning.{bytes_in, if_in, relocs_in, reloc_part, entries_in, undefined_of, outer, written}
+use Rattle.asm_objects.specs.Making.{parts_of, entries_of}
 use Rattle.stabs_asm.specs.Listing.{flags_of}
-use Rattle.stabs_asm.specs.declared.statement.Part.{Part}
-use Rattle.stabs_asm.specs.declared.statement.Part.TheVariants as part
-use Rattle.stabs_asm.specs.declared.statement.What.{What}
-use Rattle.stabs_asm.specs.declared.statement.What.TheVariants as what
-use Rattle.stabs_asm.specs.declared.statement.Statement.{Statement}
-use Rattle.stabs_asm.specs.declared.table.Places.{Places}
-use Rattle.stabs_asm.specs.declared.table.Table.{Table}
+use Rattle.asm_statements.specs.declared.statement.Part.{Part}
+use Rattle.asm_statements.specs.declared.statement.Part.TheVariants as part
+use Rattle.asm_statements.specs.declared.statement.What.{What}
+use Rattle.asm_statements.specs.declared.statement.What.TheVariants as what
+use Rattle.asm_statements.specs.declared.statement.Statement.{Statement}
+use Rattle.asm_objects.specs.declared.table.Places.{Places}
+use Rattle.asm_objects.specs.declared.table.Table.{Table}
 use Rattle.stabs_asm.proofs.ListLemmas.{NamedFits, stab_for, field_for}
 use Rattle.stabs_asm.proofs.RowLemmas.{Listed, ListedFits}
 use Rattle.stabs_asm.proofs.EachLemmas.{Says, none, flat_none, flat_one, listed_statements, given, given_words, given_none}

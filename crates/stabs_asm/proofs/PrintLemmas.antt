@@ -6,8 +6,8 @@ use Rattle.nlist_codec.specs.declared.entry.Entry.{Entry}
 use Rattle.reloc.specs.declared.reloc.Reloc.{Reloc}
 use Rattle.aout_object.specs.Objects.{Contents, named_entry, all_named, named_of}
 use Rattle.stabs_asm.specs.Listing.{hex_word, cut_rows, rows_of, byte_lines, byte_line, text_of, listing, rel_line, entry_line}
-use Rattle.stabs_asm.specs.declared.statement.Part.{Part}
-use Rattle.stabs_asm.specs.declared.statement.Part.TheVariants as part
+use Rattle.asm_statements.specs.declared.statement.Part.{Part}
+use Rattle.asm_statements.specs.declared.statement.Part.TheVariants as part
 
 -- the rows are cut at every sixteenth byte
 record Cut (k : ℕ) (bytes : List ℕ) : Type 0 where

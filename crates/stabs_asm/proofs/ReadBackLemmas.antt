@@ -11,7 +11,7 @@ use Rattle.nlist_codec.specs.Entries.{EntryFits}
 use Rattle.strtab.specs.StringTable.{HasNoZero, is_zero, name_in}
 use Rattle.aout_object.specs.Objects.{Contents, ObjectFits, IsAccepted, named_entry, all_named, named_of, name_of}
 use Rattle.aout_object.proofs.NameLemmas.{names-whole}
-use Rattle.stabs_asm.specs.Meaning.{has_no_zero}
+use Rattle.asm_objects.specs.Meaning.{has_no_zero}
 use Rattle.stabs_asm.specs.Listing.{HoldsBytes, IsListed}
 use Rattle.stabs_asm.proofs.ListLemmas.{NamedFits}
 use Rattle.stabs_asm.proofs.RowLemmas.{Listed, ListedFits, listing_read}

@@ -9,15 +9,15 @@ use Rattle.nlist_codec.specs.declared.named.Named.{Named}
 use Rattle.reloc.specs.declared.reloc.Reloc.{Reloc}
 use Rattle.aout_object.specs.declared.parts.Parts.{Parts}
 use Rattle.aout_object.specs.Objects.{IsReloc}
-use Rattle.stabs_asm.specs.Tokens.{in_word, is_within}
-use Rattle.stabs_asm.specs.Operands.{limit}
-use Rattle.stabs_asm.specs.Lines.{line_of, lines_of, read_lines, read_source, at_line}
+use Rattle.asm_statements.specs.Tokens.{in_word, is_within}
+use Rattle.asm_statements.specs.Operands.{limit}
+use Rattle.asm_statements.specs.Lines.{line_of, lines_of, read_lines, read_source, at_line}
 use Rattle.stabs_asm.specs.Listing.{hex_byte, hex_word, bytes_on, byte_line, numbers_of, entry_line, line_for, text_of, escaped, rel_line, part_word, flags_of, cut_rows, rows_of, lines_for}
-use Rattle.stabs_asm.specs.declared.statement.Part.{Part}
-use Rattle.stabs_asm.specs.declared.statement.Part.TheVariants as part
-use Rattle.stabs_asm.specs.declared.statement.What.{What}
-use Rattle.stabs_asm.specs.declared.statement.What.TheVariants as what
-use Rattle.stabs_asm.specs.declared.statement.Statement.{Statement}
+use Rattle.asm_statements.specs.declared.statement.Part.{Part}
+use Rattle.asm_statements.specs.declared.statement.Part.TheVariants as part
+use Rattle.asm_statements.specs.declared.statement.What.{What}
+use Rattle.asm_statements.specs.declared.statement.What.TheVariants as what
+use Rattle.asm_statements.specs.declared.statement.Statement.{Statement}
 use Rattle.stabs_asm.proofs.TokenLemmas.{Each, Each-append, IsWord, decimal_word, hex_byte_word, hex_word_word}
 use Rattle.stabs_asm.proofs.ListLemmas.{NamedFits, stab_for, field_for, rel_for, entry_read, byte_read, machine_read, bsize_read, entry_word_read, rel_read, flags_small}
 

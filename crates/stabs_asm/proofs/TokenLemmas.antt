@@ -7,10 +7,10 @@ use Rattle.std.proofs.lemmas.Fmt.{decimal_digit, decimal_by_steps}
 use Rattle.st_base.specs.Number.{IsBytes}
 use Rattle.st_base.specs.Numerals.{digit_worth, hex2, hex8}
 use Rattle.st_base.specs.Shown.{hex_digit}
-use Rattle.stabs_asm.specs.Tokens as tok
-use Rattle.stabs_asm.specs.Tokens.{Token, in_word, is_digit, is_octal, is_blank, begins_word, with_token, glue, read_in, tokens, inside, put}
-use Rattle.stabs_asm.specs.Tokens.Token.{Word, Str, Mark}
-use Rattle.stabs_asm.specs.Operands.{value_on, number_of, digit_value, limit, ◌>>=◌}
+use Rattle.asm_statements.specs.Tokens as tok
+use Rattle.asm_statements.specs.Tokens.{Token, in_word, is_digit, is_octal, is_blank, begins_word, with_token, glue, read_in, tokens, inside, put}
+use Rattle.asm_statements.specs.Tokens.Token.{Word, Str, Mark}
+use Rattle.asm_statements.specs.Operands.{value_on, number_of, digit_value, limit, ◌>>=◌}
 use Rattle.stabs_asm.specs.Listing.{escaped, hex_byte, hex_word}
 
 -- all bytes pass a test

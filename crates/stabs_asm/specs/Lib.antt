@@ -1,15 +1,2 @@
 pub mod Assembling
-pub mod Directives
-pub mod Emitting
-pub mod Expressions
-pub mod First
-pub mod Fits
-pub mod Kinds
-pub mod Layout
-pub mod Lines
 pub mod Listing
-pub mod Meaning
-pub mod Names
-pub mod Operands
-pub mod Scanning
-pub mod Tokens

@@ -9,13 +9,14 @@ use Rattle.st_base.specs.Faults.{checked}
 use Rattle.aout_object.specs.Making.{made, size_check}
 use Rattle.aout_object.specs.Objects.{file_of, Contents, named_of}
 use Rattle.aout_object.specs.declared.parts.Parts.{Parts}
-use Rattle.stabs_asm.specs.Tokens.{is_within}
-use Rattle.stabs_asm.specs.Lines.{read_source}
-use Rattle.stabs_asm.specs.Meaning.{first_fault_of}
-use Rattle.stabs_asm.specs.Assembling.{parts_of, entries_of, assembled}
-use Rattle.stabs_asm.specs.declared.statement.Part.{Part}
-use Rattle.stabs_asm.specs.declared.statement.Part.TheVariants as part
-use Rattle.stabs_asm.specs.declared.statement.Statement.{Statement}
+use Rattle.asm_statements.specs.Tokens.{is_within}
+use Rattle.asm_statements.specs.Lines.{read_source}
+use Rattle.asm_objects.specs.Meaning.{first_fault_of}
+use Rattle.asm_objects.specs.Making.{parts_of, entries_of}
+use Rattle.stabs_asm.specs.Assembling.{assembled}
+use Rattle.asm_statements.specs.declared.statement.Part.{Part}
+use Rattle.asm_statements.specs.declared.statement.Part.TheVariants as part
+use Rattle.asm_statements.specs.declared.statement.Statement.{Statement}
 
 -- `0x` and the digits of a byte, of a number of 32 bits
 abbrev pub hex_byte : ℕ → List ℕ

@@ -6,8 +6,8 @@ ghost use Rattle.strtab.specs.StringTable.{name_in};
 ghost use Rattle.aout_object.specs.Objects.{name_of, named_entry};
 ghost use Rattle.stabs_asm.specs.Listing as spec;
 
-use crate::statement::Part;
 use aout_object::Object;
+use asm_statements::Part;
 use nlist_codec::Entry;
 use reloc::Reloc;
 use st_base::{Memory, Text, put_hex2, put_hex8, put_number};

@@ -5,9 +5,11 @@ use Rattle.st_base.specs.declared.fault.Refused.TheVariants as refused
 use Rattle.st_base.specs.declared.order.Order.{Order}
 use Rattle.aout_object.specs.Objects.{Contents}
 use Rattle.aout_object.specs.Decoding.{Gives}
-use Rattle.stabs_asm.specs.Assembling.{object_of, assembled, ReadsSource}
-use Rattle.stabs_asm.specs.Lines.{read_source}
-use Rattle.stabs_asm.specs.declared.statement.Statement.{Statement}
+use Rattle.asm_objects.specs.Making.{object_of}
+use Rattle.asm_statements.specs.Lines.{ReadsSource}
+use Rattle.stabs_asm.specs.Assembling.{assembled}
+use Rattle.asm_statements.specs.Lines.{read_source}
+use Rattle.asm_statements.specs.declared.statement.Statement.{Statement}
 use Rattle.stabs_asm.proofs.assembling.assemble.Goals as goal
 
 -- what the statements that were read make

@@ -1,0 +1,11 @@
+pub mod CheckLemmas
+pub mod FaultLemmas
+pub mod LeftLemmas
+pub mod MakeLemmas
+pub mod NameLemmas
+pub mod ObjectLemmas
+pub mod PlaceLemmas
+pub mod RelocLemmas
+pub mod SizeLemmas
+pub mod TableLemmas
+pub mod ZeroLemmas

@@ -1,0 +1,67 @@
+-- What the map of names and the set of words say of the lists that contracts see.
+use Rattle.std.proofs.Common.{map, zero, suc, ◌+◌, drop, slice_get, add-one, append_assoc, ◌≡◌, ℕ, Bool, true, false, List, [], ◌∷◌, ◌++◌, Vec, Option, None, Some, is_some, position, if◌then◌else◌, refl, sym, ap, ◌∙◌, inl, inr}
+use Rattle.std.proofs.lemmas.Option.{none-some}
+use Rattle.std.proofs.lemmas.Bool.{cases_Bool, true≢false}
+use Rattle.std.proofs.lemmas.List.{map-append, length-map}
+use Rattle.std.specs.List.{list_any, position_or_len}
+use Rattle.std.specs.Map.{lookup}
+use Rattle.std.specs.Str.{bytes_eq}
+use Rattle.asm_objects.specs.Names.{pairs_in, words_in, with_first, with_word}
+
+pub any-words : {A : Type 0} (test : List ℕ → Bool) (ks : List (Vec ℕ A)) → list_any (λ k. test k.items) ks ≡ list_any test (words_in ks)
+any-words test [] = refl
+any-words test (k ∷ ks) = rw (any-words test ks) refl
+
+before-words : {A : Type 0} (test : List ℕ → Bool) (ks : List (Vec ℕ A)) → position_or_len (λ k. test k.items) ks ≡ position_or_len test (words_in ks)
+before-words test [] = refl
+before-words test (k ∷ ks) = rw (before-words test ks) refl
+
+pub place-words : {A : Type 0} (test : List ℕ → Bool) (ks : List (Vec ℕ A)) → position (λ k. test k.items) ks ≡ position test (words_in ks)
+place-words {A} test ks = rw (before-words test ks, length-map ks (λ (k : Vec ℕ A). k.items)) refl
+
+pub lookup-pairs : {A V : Type 0} (test : List ℕ → Bool) (es : List (Vec ℕ A × V)) → lookup (λ k. test k.items) es ≡ lookup test (pairs_in es)
+lookup-pairs test [] = refl
+lookup-pairs test (e ∷ es) = rw (lookup-pairs test es) refl
+
+-- a word that is inserted
+pub words-insert : {A : Type 0} (ks new : List (Vec ℕ A)) (key : Vec ℕ A) (old : List (List ℕ)) (name : List ℕ) → words_in ks ≡ old → key.items ≡ name
+    → new ≡ (if list_any (λ k. bytes_eq key.items k.items) ks then ks else ks ++ key ∷ []) → words_in new ≡ with_word old name
+words-insert {A} ks new key old name view is e =
+    rw (e, ← view, ← is)
+    (elim (cases_Bool (list_any (λ k. bytes_eq key.items k.items) ks)) [
+      | inl h ↦ rw (h, sym (any-words (bytes_eq key.items) ks) ∙ h) refl
+      | inr h ↦ rw (h, sym (any-words (bytes_eq key.items) ks) ∙ h) (map-append (λ (k : Vec ℕ A). k.items) ks (key ∷ []))
+    ])
+
+-- a name that is there, and one that is not
+pub pairs-there : {A V : Type 0} (es : List (Vec ℕ A × V)) (old : List (List ℕ × V)) (name : List ℕ) (v : V) → pairs_in es ≡ old
+    → is_some (lookup (λ k. bytes_eq name k.items) es) ≡ true → old ≡ with_first old (name, v)
+pairs-there es old name v view there =
+    let e : is_some (lookup (bytes_eq name) old) ≡ true = ap (λ l. is_some (lookup (bytes_eq name) l)) (sym view) ∙ ap is_some (sym (lookup-pairs (bytes_eq name) es)) ∙ there in
+    rw e refl
+
+pub pairs-new : {A V : Type 0} (es new : List (Vec ℕ A × V)) (key : Vec ℕ A) (old : List (List ℕ × V)) (name : List ℕ) (v : V) → pairs_in es ≡ old → key.items ≡ name
+    → is_some (lookup (λ k. bytes_eq name k.items) es) ≡ false → new ≡ es ++ (key, v) ∷ [] → pairs_in new ≡ with_first old (name, v)
+pairs-new {A} {V} es new key old name v view is absent e =
+    let none : is_some (lookup (bytes_eq name) old) ≡ false = ap (λ l. is_some (lookup (bytes_eq name) l)) (sym view) ∙ ap is_some (sym (lookup-pairs (bytes_eq name) es)) ∙ absent in
+    rw (none, e, ← view, ← is) (map-append (λ (p : Vec ℕ A × V). (p.0.items, p.1)) es ((key, v) ∷ []))
+
+pub absent-key : {A V : Type 0} (es : List (Vec ℕ A × V)) (key : Vec ℕ A) (name : List ℕ) → key.items ≡ name
+    → is_some (lookup (λ k. bytes_eq name k.items) es) ≡ false → lookup (λ k. bytes_eq key.items k.items) es ≡ None
+absent-key es key name is absent = rw is (is-none _ absent)
+  where
+    is-none : {V : Type 0} (o : Option V) → is_some o ≡ false → o ≡ None
+    is-none None e = refl
+    is-none (Some v) e = absurd (true≢false e)
+
+-- the item at a place and what is behind it
+slice_item : {X : Type 0} (xs : List X) (i : ℕ) (x : X) → slice_get xs i ≡ Some x → drop i xs ≡ x ∷ drop (i + 1) xs
+slice_item [] i x e = absurd (none-some x e)
+slice_item (y ∷ xs) zero x e = let same : y ≡ x = cc in rw same refl
+slice_item (y ∷ xs) (suc i) x e = rw (add-one (suc i)) (rw (add-one i) at (slice_item xs i x e))
+
+-- what one item more of a list gives is put behind what was given before
+pub taken_step : {X Y : Type 0} (f : X → Y) (xs : List X) (out next whole : List Y) (i : ℕ) (x : X) → out ++ map f (drop i xs) ≡ whole → slice_get xs i ≡ Some x
+    → next ≡ out ++ f x ∷ [] → next ++ map f (drop (i + 1) xs) ≡ whole
+taken_step f xs out next whole i x invariant item is =
+    rw is (append_assoc out (f x ∷ []) (map f (drop (i + 1) xs)) ∙ (rw (slice_item xs i x item) at invariant))

@@ -1,0 +1,6 @@
+pub mod Emitting
+pub mod First
+pub mod Layout
+pub mod Making
+pub mod Meaning
+pub mod Names

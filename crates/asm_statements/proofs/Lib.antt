@@ -1,0 +1,6 @@
+mod LineExamples
+pub mod ExpressionLemmas
+pub mod FitLemmas
+pub mod LineLemmas
+pub mod OperandLemmas
+pub mod ScanLemmas

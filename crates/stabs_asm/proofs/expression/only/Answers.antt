@@ -1,5 +1,0 @@
-use Rattle.stabs_asm.proofs.ExpressionLemmas.{only_item}
-use Rattle.stabs_asm.proofs.expression.only.Goals as goal
-
-pub returns : goal.returns
-returns c = only_item c.args.names c.replace.result c.replace.ensures.old c.requires

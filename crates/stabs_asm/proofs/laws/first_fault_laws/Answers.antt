@@ -1,8 +1,0 @@
-use Rattle.stabs_asm.proofs.FaultLemmas.{first_is, none_has}
-use Rattle.stabs_asm.proofs.laws.first_fault_laws.Goals as goal
-
-pub returns-clause-first : goal.returns-clause-first
-returns-clause-first c = first_is
-
-pub returns-clause-none : goal.returns-clause-none
-returns-clause-none c = none_has

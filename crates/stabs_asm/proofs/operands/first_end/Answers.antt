@@ -1,5 +1,0 @@
-use Rattle.stabs_asm.proofs.OperandLemmas.{comma_cuts}
-use Rattle.stabs_asm.proofs.operands.first_end.Goals as goal
-
-pub returns-clause-value : goal.returns-clause-value
-returns-clause-value c = comma_cuts c.args.tokens.now c.comma_at.result c.comma_at.ensures.value

@@ -1,5 +1,0 @@
-use Rattle.stabs_asm.proofs.PlaceLemmas.{offsets-with_first}
-use Rattle.stabs_asm.proofs.table.add_name.Goals as goal
-
-pub returns-clause-fits : goal.returns-clause-fits
-returns-clause-fits c = offsets-with_first c.args.names.now c.add.new.self c.args.name.now c.args.definition c.in_ok-add.ensures.ok c.requires
