@@ -13,11 +13,6 @@ mod limits;
 mod printed;
 mod reading_back;
 
-pub use asm_objects::{Definition, Home, Names, Places, Table, Use, Words, first_fault_laws};
-pub use asm_statements::{
-    Directive, Expression, Form, Kept, Name, Number, Part, Plain, Quoted, Rel, Stab, Statement,
-    Sum, What, Width,
-};
 pub use assembling::assemble;
 pub use limits::SOURCE_LIMIT;
 pub use printed::list;
