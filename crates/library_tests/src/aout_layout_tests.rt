@@ -1,11 +1,11 @@
-use crate::answers::{put_bytes_word, put_fault, put_word, put_word16, put_word32};
 use crate::changes::changed;
-use crate::table::{Calls, Odd, all_hold};
-use crate::words::{last, number16, number32, order};
+use crate::holds::all_hold;
 use aout_layout::{Header, header_fits, read_header, write_header};
 use st_base::{Order, Text};
-use std::alloc::Global;
+use test_tables::{Calls, Row};
 
+/// Sizes of text, data and bss of which each byte is another, 24 bytes of entries, text at 0x1000, 16 bytes of text relocations
+/// and 8 of data relocations.
 /// Sizes of text, data and bss of which each byte is another, 24 bytes of entries, text at 0x1000, 16 bytes of text relocations
 /// and 8 of data relocations.
 const LITTLE: &[u8] = b"
@@ -30,81 +30,63 @@ const BIG: &[u8] = b"
 00000008
 ";
 
-/// Appends the fields in their order, each as its bytes with the most significant one first.
-fn put_header(header: &Header, out: &mut Text) -> Result<(), Odd> {
-    put_word16(header.machine, out)?;
-    put_word32(header.text, out)?;
-    put_word32(header.data_part, out)?;
-    put_word32(header.bss, out)?;
-    put_word32(header.symbols, out)?;
-    put_word32(header.entry, out)?;
-    put_word32(header.text_relocs, out)?;
-    Ok(put_word32(header.data_relocs, out)?)
-}
-
-fn name_of(order: Order) -> &'static [u8] {
-    match order {
-        Order::Little => b"little",
-        Order::Big => b"big",
+/// Writes the order, and the fields in their order, each as its bytes with the most significant one first.
+fn put_header(header: &Header, row: &mut Row) {
+    match header.order {
+        Order::Little => row.put(b"little"),
+        Order::Big => row.put(b"big"),
     }
+    row.put_word16(header.machine);
+    row.put_words32(&[
+        header.text,
+        header.data_part,
+        header.bss,
+        header.symbols,
+        header.entry,
+        header.text_relocs,
+        header.data_relocs,
+    ]);
 }
 
-fn put_read(record: &[u8; 32], out: &mut Text) -> Result<(), Odd> {
-    match read_header(record) {
-        Ok(header) => {
-            put_word(name_of(header.order), out)?;
-            put_header(&header, out)
-        }
-        Err(fault) => Ok(put_fault(&fault, out)?),
-    }
-}
-
-fn header_bytes(alloc: Global, order: Order, changes: &[u8]) -> Result<Text, Odd> {
-    match order {
-        Order::Little => changed(alloc, order, LITTLE, changes),
-        Order::Big => changed(alloc, order, BIG, changes),
+fn header_bytes(row: &mut Row) -> Text {
+    match row.order() {
+        Order::Little => changed(row, Order::Little, LITTLE),
+        Order::Big => changed(row, Order::Big, BIG),
     }
 }
 
 /// An order, and changes of the bytes that have it.
-fn read(alloc: Global, row: &[u8], out: &mut Text) -> Result<(), Odd> {
-    let (order, changes) = order(row)?;
-    let bytes = header_bytes(alloc, order, changes)?;
+fn read(row: &mut Row) {
+    let bytes = header_bytes(row);
     match bytes.bytes().split_first_chunk::<32>() {
-        Some((record, _)) => put_read(record, out),
-        None => Err(Odd::Row),
+        Some((record, _)) => match read_header(record) {
+            Ok(header) => put_header(&header, row),
+            Err(fault) => row.put_fault(&fault),
+        },
+        None => row.refuse(),
     }
 }
 
-fn header_in(row: &[u8]) -> Result<Header, Odd> {
-    let (order, row) = order(row)?;
-    let (machine, row) = number16(row)?;
-    let (text, row) = number32(row)?;
-    let (data_part, row) = number32(row)?;
-    let (bss, row) = number32(row)?;
-    let (symbols, row) = number32(row)?;
-    let (entry, row) = number32(row)?;
-    let (text_relocs, row) = number32(row)?;
-    let data_relocs = last(number32(row)?)?;
-    Ok(Header {
-        order,
-        machine,
-        text,
-        data_part,
-        bss,
-        symbols,
-        entry,
-        text_relocs,
-        data_relocs,
-    })
+fn header_in(row: &mut Row) -> Header {
+    Header {
+        order: row.order(),
+        machine: row.number16(),
+        text: row.number32(),
+        data_part: row.number32(),
+        bss: row.number32(),
+        symbols: row.number32(),
+        entry: row.number32(),
+        text_relocs: row.number32(),
+        data_relocs: row.number32(),
+    }
 }
 
-fn write(row: &[u8], out: &mut Text) -> Result<(), Odd> {
-    let header = header_in(row)?;
+fn write(row: &mut Row) {
+    let header = header_in(row);
     if header_fits(&header) {
-        Ok(put_bytes_word(&write_header(&header), out)?)
+        row.put_bytes(&write_header(&header));
     } else {
-        Ok(put_word(b"unfit", out)?)
+        row.put(b"unfit");
     }
 }
 
@@ -112,17 +94,11 @@ fn write(row: &[u8], out: &mut Text) -> Result<(), Odd> {
 struct AoutLayout;
 
 impl Calls for AoutLayout {
-    fn answer(
-        &mut self,
-        alloc: Global,
-        call: &[u8],
-        row: &[u8],
-        out: &mut Text,
-    ) -> Result<(), Odd> {
+    fn answer(&mut self, call: &str, row: &mut Row) {
         match call {
-            b"read_header" => read(alloc, row, out),
-            b"write_header" => write(row, out),
-            _ => Err(Odd::Row),
+            "read_header" => read(row),
+            "write_header" => write(row),
+            _ => row.refuse(),
         }
     }
 }

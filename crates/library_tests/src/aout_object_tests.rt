@@ -2,20 +2,17 @@ ghost use Rattle.std.specs.Prelude.{◌≡◌, [], All, IfOk, OnOk};
 ghost use Rattle.strtab.specs.StringTable.{HasNoZero};
 ghost use Rattle.aout_object.specs.Making.{HasWholeName};
 
-use crate::answers::{
-    put_bytes_word, put_fault, put_number, put_refused, put_word, put_word8, put_word16, put_word32,
-};
 use crate::changes::changed;
+use crate::holds::all_hold;
 use crate::nlist_codec_tests::put_each_entry;
 use crate::reloc_tests::put_reloc;
 use crate::strtab_tests::zero_in;
-use crate::table::{Calls, Odd, all_hold};
-use crate::words::{bytes, bytes_of, last, number32, order, word};
 use aout_object::{Object, Parts, decode, encode};
 use nlist_codec::Named;
 use reloc::Reloc;
-use st_base::{Fault, List, Order, Refused, Text};
+use st_base::{Fault, List, Memory, Order, Refused, Text};
 use std::alloc::Global;
+use test_tables::{Calls, Odd, Row, bytes_of};
 
 // A file that has all parts, its numbers with the least significant byte first: the header; text at 32, data at 36; a word at 0
 // that moves with text, at 40, and a word at 8, entry 3, pcrel, at 48; an N_SO at 56, and a definition in text at 68; the string
@@ -61,76 +58,61 @@ const BIG: &[u8] = b"
 '_f'00
 ";
 
-/// The file that has all parts in this order, with changes.
-fn file_in(alloc: Global, order: Order, changes: &[u8]) -> Result<Text, Odd> {
+/// The file that has all parts in an order, with the changes that are left in the row.
+fn file_in(order: Order, row: &mut Row) -> Text {
     match order {
-        Order::Little => changed(alloc, order, LITTLE, changes),
-        Order::Big => changed(alloc, order, BIG, changes),
-    }
-}
-
-fn object_in(alloc: Global, row: &[u8]) -> Result<Object, Odd> {
-    let (order, changes) = order(row)?;
-    let file = file_in(alloc, order, changes)?;
-    match decode(alloc, file.bytes()) {
-        Ok(object) => Ok(object),
-        Err(Refused::At(_)) => Err(Odd::Row),
-        Err(Refused::Memory) => Err(Odd::Memory),
+        Order::Little => changed(row, order, LITTLE),
+        Order::Big => changed(row, order, BIG),
     }
 }
 
 // ---- what decoding answers
 
-fn put_again(alloc: Global, object: &Object, file: &[u8], out: &mut Text) -> Result<(), Odd> {
-    let again = encode(alloc, object)?;
-    let is_same = again.bytes() == file;
-    let answer = if is_same {
-        b"same".as_slice()
-    } else {
-        b"other"
-    };
-    Ok(put_word(answer, out)?)
-}
-
-/// `same` where the file is decoded, and encoded again as it stood.
-fn put_decoded(alloc: Global, file: &[u8], out: &mut Text) -> Result<(), Odd> {
-    match decode(alloc, file) {
-        Err(refused) => put_refused(&refused, out),
-        Ok(object) => put_again(alloc, &object, file, out),
+/// `same` where an object is encoded again as its file stood.
+fn put_again(object: &Object, file: &[u8], row: &mut Row) {
+    match encode(row.alloc, object) {
+        Ok(again) if again.bytes() == file => row.put(b"same"),
+        Ok(_) => row.put(b"other"),
+        Err(_) => row.lose(),
     }
 }
 
-fn decoded(alloc: Global, order: Order, changes: &[u8]) -> Result<Text, Odd> {
-    let file = file_in(alloc, order, changes)?;
-    let mut out = Text::new(alloc);
-    put_decoded(alloc, file.bytes(), &mut out)?;
-    Ok(out)
+fn put_decoded(file: &[u8], row: &mut Row) {
+    match decode(row.alloc, file) {
+        Err(refused) => row.put_refused(&refused),
+        Ok(object) => put_again(&object, file, row),
+    }
 }
 
 /// The answer for both orders, or two that differ.
-fn decode_both(alloc: Global, changes: &[u8], out: &mut Text) -> Result<(), Odd> {
-    let little = decoded(alloc, Order::Little, changes)?;
-    let big = decoded(alloc, Order::Big, changes)?;
-    put_word(little.bytes(), out)?;
-    if little.bytes() != big.bytes() {
-        put_word(b"or", out)?;
-        put_word(big.bytes(), out)?;
+fn decode_both(row: &mut Row) {
+    let changes = row.rest();
+    let mut little = Row::new(row.alloc, changes);
+    let file = file_in(Order::Little, &mut little);
+    put_decoded(file.bytes(), &mut little);
+    let mut big = Row::new(row.alloc, changes);
+    let file = file_in(Order::Big, &mut big);
+    put_decoded(file.bytes(), &mut big);
+    row.take(&little);
+    if little.answer.bytes() != big.answer.bytes() {
+        row.put(b"or");
+        row.take(&big);
     }
-    Ok(())
 }
 
 /// A file by itself.
-fn decode_bytes(alloc: Global, row: &[u8], out: &mut Text) -> Result<(), Odd> {
-    let file = last(bytes(alloc, row)?)?;
-    put_decoded(alloc, file.bytes(), out)
+fn decode_bytes(row: &mut Row) {
+    let file = row.bytes();
+    put_decoded(file.bytes(), row);
 }
 
 /// The file with a byte more.
-fn decode_longer(alloc: Global, row: &[u8], out: &mut Text) -> Result<(), Odd> {
-    let order = last(order(row)?)?;
-    let mut file = file_in(alloc, order, b"")?;
-    file.push(0)?;
-    put_decoded(alloc, file.bytes(), out)
+fn decode_longer(row: &mut Row) {
+    let order = row.order();
+    let mut file = file_in(order, row);
+    let written = file.push(0);
+    row.wrote(written);
+    put_decoded(file.bytes(), row);
 }
 
 fn is_truncated(alloc: Global, front: &[u8]) -> bool {
@@ -142,90 +124,85 @@ fn is_truncated(alloc: Global, front: &[u8]) -> bool {
 }
 
 /// How many fronts of the file are told to be truncated at their ends.
-fn decode_fronts(alloc: Global, row: &[u8], out: &mut Text) -> Result<(), Odd> {
-    let order = last(order(row)?)?;
-    let file = file_in(alloc, order, b"")?;
+fn decode_fronts(row: &mut Row) {
+    let order = row.order();
+    let file = file_in(order, row);
     let all = file.bytes();
     let mut count = 0u64;
     for cut in 0..all.len() {
-        if is_truncated(alloc, &all[..cut]) {
+        if is_truncated(row.alloc, &all[..cut]) {
             count = count.wrapping_add(1);
         }
     }
-    Ok(put_number(count, out)?)
+    row.put_number(count);
 }
 
 // ---- what an object gives
 
-fn put_words_of(parts: &Parts, out: &mut Text) -> Result<(), Odd> {
-    put_word16(parts.machine, out)?;
-    put_word32(parts.bss, out)?;
-    Ok(put_word32(parts.entry, out)?)
-}
-
 /// The machine word, the size of bss, the entry word, the end of text, and the bytes of text and of data.
-fn put_parts(object: &Object, out: &mut Text) -> Result<(), Odd> {
-    put_words_of(object.parts(), out)?;
-    put_word32(object.text_end(), out)?;
-    put_bytes_word(object.parts().text.bytes(), out)?;
-    Ok(put_bytes_word(object.parts().data_part.bytes(), out)?)
+fn put_parts(object: &Object, row: &mut Row) {
+    let parts = object.parts();
+    row.put_word16(parts.machine);
+    row.put_words32(&[parts.bss, parts.entry, object.text_end()]);
+    row.put_bytes(parts.text.bytes());
+    row.put_bytes(parts.data_part.bytes());
 }
 
-fn put_each_reloc(relocs: &[Reloc], out: &mut Text) -> Result<(), Odd> {
+fn put_each_reloc(relocs: &[Reloc], row: &mut Row) {
     for reloc in relocs {
-        put_reloc(reloc, out)?;
+        put_reloc(reloc, row);
     }
-    Ok(())
 }
 
 /// The relocations of text, `and`, and those of data.
-fn put_relocs(object: &Object, out: &mut Text) -> Result<(), Odd> {
-    put_each_reloc(object.parts().text_relocs.items(), out)?;
-    put_word(b"and", out)?;
-    put_each_reloc(object.parts().data_relocs.items(), out)
+fn put_relocs(object: &Object, row: &mut Row) {
+    put_each_reloc(object.parts().text_relocs.items(), row);
+    row.put(b"and");
+    put_each_reloc(object.parts().data_relocs.items(), row);
 }
 
 /// The entries, `in`, and the string table.
-fn put_entries(object: &Object, out: &mut Text) -> Result<(), Odd> {
-    put_each_entry(object.entries().items(), out)?;
-    put_word(b"in", out)?;
-    Ok(put_bytes_word(object.strings().bytes(), out)?)
+fn put_entries(object: &Object, row: &mut Row) {
+    put_each_entry(object.entries().items(), row);
+    row.put(b"in");
+    row.put_bytes(object.strings().bytes());
 }
 
-fn put_named(named: &Named, out: &mut Text) -> Result<(), Odd> {
-    put_word8(named.kind, out)?;
-    put_word8(named.other, out)?;
-    put_word16(named.desc, out)?;
-    put_word32(named.value, out)?;
-    Ok(put_bytes_word(named.name.bytes(), out)?)
-}
-
-fn put_each_named(named: &[Named], out: &mut Text) -> Result<(), Odd> {
+fn put_each_named(named: &[Named], row: &mut Row) {
     for entry in named {
-        put_named(entry, out)?;
+        row.put_byte(entry.kind);
+        row.put_byte(entry.other);
+        row.put_word16(entry.desc);
+        row.put_word32(entry.value);
+        row.put_bytes(entry.name.bytes());
     }
-    Ok(())
 }
 
-fn put_names(alloc: Global, object: &Object, out: &mut Text) -> Result<(), Odd> {
-    let named = object.named(alloc)?;
-    put_each_named(named.items(), out)
+fn put_names(object: &Object, row: &mut Row) {
+    match object.named(row.alloc) {
+        Ok(named) => put_each_named(named.items(), row),
+        Err(_) => row.lose(),
+    }
 }
 
-fn put_part(alloc: Global, call: &[u8], object: &Object, out: &mut Text) -> Result<(), Odd> {
+fn put_part(call: &str, object: &Object, row: &mut Row) {
     match call {
-        b"parts" => put_parts(object, out),
-        b"relocs" => put_relocs(object, out),
-        b"entries" => put_entries(object, out),
-        b"named" => put_names(alloc, object, out),
-        _ => Err(Odd::Row),
+        "parts" => put_parts(object, row),
+        "relocs" => put_relocs(object, row),
+        "entries" => put_entries(object, row),
+        "named" => put_names(object, row),
+        _ => row.refuse(),
     }
 }
 
 /// What the object of the file that has all parts gives.
-fn part_of(alloc: Global, call: &[u8], row: &[u8], out: &mut Text) -> Result<(), Odd> {
-    let object = object_in(alloc, row)?;
-    put_part(alloc, call, &object, out)
+fn part_of(call: &str, row: &mut Row) {
+    let order = row.order();
+    let file = file_in(order, row);
+    match decode(row.alloc, file.bytes()) {
+        Ok(object) => put_part(call, &object, row),
+        Err(_) => row.refuse(),
+    }
 }
 
 // ---- objects that are made
@@ -249,7 +226,7 @@ fn parts_with(alloc: Global, order: Order, entry: u32, text: Text) -> Parts
 }
 
 /// Adds an entry.
-fn push_named(alloc: Global, named: &mut List<Named>, kind: u8, name: &[u8]) -> Result<(), Odd>
+fn push_named(alloc: Global, named: &mut List<Named>, kind: u8, name: &[u8]) -> Result<(), Memory>
     requires names { All HasWholeName named.old }
     requires whole { HasNoZero name.now }
     ensures { OnOk result (All HasWholeName named.new) }
@@ -261,8 +238,7 @@ fn push_named(alloc: Global, named: &mut List<Named>, kind: u8, name: &[u8]) -> 
         desc: 0,
         value: 9,
         name,
-    })?;
-    Ok(())
+    })
 }
 
 /// Adds an entry whose kind is the first byte, and whose name the other ones; no zero byte may be among them.
@@ -276,16 +252,20 @@ fn push_spelled(alloc: Global, named: &mut List<Named>, entry: &[u8]) -> Result<
             if zero_in(name).is_some() {
                 return Err(Odd::Row);
             }
-            push_named(alloc, named, *kind, name)
+            push_named(alloc, named, *kind, name)?;
+            Ok(())
         }
     }
 }
 
-/// The entries that are spelled so, at least one.
+/// The entries that are spelled so, if any.
 fn named_in(alloc: Global, row: &[u8]) -> Result<List<Named>, Odd>
     ensures { IfOk result (λ named. All HasWholeName named) }
 {
     let mut named = List::new(alloc);
+    if row.is_empty() {
+        return Ok(named);
+    }
     for spelled in row.split(|b| *b == b' ') {
         let entry = bytes_of(alloc, spelled)?;
         push_spelled(alloc, &mut named, entry.bytes())?;
@@ -293,88 +273,77 @@ fn named_in(alloc: Global, row: &[u8]) -> Result<List<Named>, Odd>
     Ok(named)
 }
 
-/// Those of the row, if it has any.
-fn named_of(alloc: Global, row: &[u8]) -> Result<List<Named>, Odd>
-    ensures { IfOk result (λ named. All HasWholeName named) }
-{
-    if row.is_empty() {
-        Ok(List::new(alloc))
-    } else {
-        named_in(alloc, row)
+fn put_file_of(object: &Object, row: &mut Row) {
+    match encode(row.alloc, object) {
+        Ok(file) => row.put_bytes(file.bytes()),
+        Err(_) => row.lose(),
     }
 }
 
-fn put_file_of(alloc: Global, object: &Object, out: &mut Text) -> Result<(), Odd> {
-    let file = encode(alloc, object)?;
-    Ok(put_bytes_word(file.bytes(), out)?)
-}
-
 /// The file of the object that is made.
-fn put_made(alloc: Global, parts: Parts, named: &List<Named>, out: &mut Text) -> Result<(), Odd>
+fn put_made(parts: Parts, named: &List<Named>, row: &mut Row)
     requires machine { parts.machine ≡ 0x64 }
     requires text_relocs { parts.text_relocs ≡ [] }
     requires data_relocs { parts.data_relocs ≡ [] }
     requires names { All HasWholeName named.now }
 {
-    match Object::make(alloc, parts, named) {
-        Ok(object) => put_file_of(alloc, &object, out),
-        Err(refused) => put_refused(&refused, out),
+    match Object::make(row.alloc, parts, named) {
+        Ok(object) => put_file_of(&object, row),
+        Err(refused) => row.put_refused(&refused),
     }
 }
 
 /// An order, an entry word, text, and entries with their names.
-fn make(alloc: Global, row: &[u8], out: &mut Text) -> Result<(), Odd> {
-    let (order, row) = order(row)?;
-    let (entry, row) = number32(row)?;
-    let (text, row) = bytes(alloc, row)?;
-    let named = named_of(alloc, row)?;
-    put_made(alloc, parts_with(alloc, order, entry, text), &named, out)
+fn make(row: &mut Row) {
+    let order = row.order();
+    let entry = row.number32();
+    let text = row.bytes();
+    match named_in(row.alloc, row.rest()) {
+        Ok(named) => put_made(parts_with(row.alloc, order, entry, text), &named, row),
+        Err(odd) => row.fail(odd),
+    }
 }
 
 /// So many zero bytes.
-fn zeros(alloc: Global, count: usize) -> Result<Text, Odd> {
+fn zeros(alloc: Global, count: usize) -> Result<Text, Memory> {
     let zeros = vec![in alloc; 0_u8; count]?;
-    Ok(Text::of(alloc, &zeros)?)
+    Text::of(alloc, &zeros)
 }
 
-fn put_fault_of_making(alloc: Global, parts: Parts, out: &mut Text) -> Result<(), Odd>
+fn put_fault_of_making(parts: Parts, row: &mut Row)
     requires machine { parts.machine ≡ 0x64 }
     requires text_relocs { parts.text_relocs ≡ [] }
     requires data_relocs { parts.data_relocs ≡ [] }
 {
-    match Object::make(alloc, parts, &List::new(alloc)) {
-        Ok(_) => Ok(put_word(b"made", out)?),
-        Err(refused) => put_refused(&refused, out),
+    match Object::make(row.alloc, parts, &List::new(row.alloc)) {
+        Ok(_) => row.put(b"made"),
+        Err(refused) => row.put_refused(&refused),
     }
 }
 
 /// An entry word, and how many zero bytes of text.
-fn make_long(alloc: Global, row: &[u8], out: &mut Text) -> Result<(), Odd> {
-    let (entry, row) = number32(row)?;
-    let size = last(number32(row)?)?;
-    let text = zeros(alloc, size as usize)?;
-    put_fault_of_making(alloc, parts_with(alloc, Order::Big, entry, text), out)
+fn make_long(row: &mut Row) {
+    let entry = row.number32();
+    let size = row.number32();
+    match zeros(row.alloc, size as usize) {
+        Ok(text) => put_fault_of_making(parts_with(row.alloc, Order::Big, entry, text), row),
+        Err(_) => row.lose(),
+    }
 }
 
 #[derive(Drop)]
 struct AoutObject;
 
 impl Calls for AoutObject {
-    fn answer(
-        &mut self,
-        alloc: Global,
-        call: &[u8],
-        row: &[u8],
-        out: &mut Text,
-    ) -> Result<(), Odd> {
+    fn answer(&mut self, call: &str, row: &mut Row) {
         match call {
-            b"decode" => decode_both(alloc, row, out),
-            b"decode_bytes" => decode_bytes(alloc, row, out),
-            b"decode_longer" => decode_longer(alloc, row, out),
-            b"decode_fronts" => decode_fronts(alloc, row, out),
-            b"make" => make(alloc, row, out),
-            b"make_long" => make_long(alloc, row, out),
-            _ => part_of(alloc, call, row, out),
+            "decode" => decode_both(row),
+            "decode_bytes" => decode_bytes(row),
+            "decode_longer" => decode_longer(row),
+            "decode_fronts" => decode_fronts(row),
+            "make" => make(row),
+            "make_long" => make_long(row),
+            _ => part_of(call, row),
         }
     }
 }

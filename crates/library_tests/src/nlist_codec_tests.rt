@@ -1,95 +1,69 @@
-use crate::answers::{put_bytes_word, put_number, put_word8, put_word16, put_word32};
-use crate::table::{Calls, Odd, all_hold};
-use crate::words::{bytes, last, number8, number16, number32, order};
+use crate::holds::all_hold;
 use nlist_codec::{Entry, read_entries, read_entry, write_entry};
-use st_base::{Order, Text};
-use std::alloc::Global;
+use st_base::Order;
+use test_tables::{Calls, Row};
 
-/// Appends the fields of each entry.
-pub fn put_each_entry(entries: &[Entry], out: &mut Text) -> Result<(), Odd> {
+/// Writes the fields of each entry in their order, each as its bytes with the most significant one first.
+pub fn put_each_entry(entries: &[Entry], row: &mut Row) {
     for entry in entries {
-        put_entry(entry, out)?;
-    }
-    Ok(())
-}
-
-/// Appends the fields in their order, each as its bytes with the most significant one first.
-fn put_entry(entry: &Entry, out: &mut Text) -> Result<(), Odd> {
-    put_word32(entry.strx, out)?;
-    put_word8(entry.kind, out)?;
-    put_word8(entry.other, out)?;
-    put_word16(entry.desc, out)?;
-    Ok(put_word32(entry.value, out)?)
-}
-
-fn entry_of(order: Order, record: &[u8; 12]) -> Entry {
-    match order {
-        Order::Little => read_entry::<false>(record),
-        Order::Big => read_entry::<true>(record),
+        row.put_word32(entry.strx);
+        row.put_byte(entry.kind);
+        row.put_byte(entry.other);
+        row.put_word16(entry.desc);
+        row.put_word32(entry.value);
     }
 }
 
-fn read(alloc: Global, row: &[u8], out: &mut Text) -> Result<(), Odd> {
-    let (order, row) = order(row)?;
-    let spelled = last(bytes(alloc, row)?)?;
-    match spelled.bytes().split_first_chunk::<12>() {
-        Some((record, _)) => put_entry(&entry_of(order, record), out),
-        None => Err(Odd::Row),
+fn read(row: &mut Row) {
+    let order = row.order();
+    let spelled = row.bytes();
+    match (spelled.bytes().split_first_chunk::<12>(), order) {
+        (Some((record, _)), Order::Little) => put_each_entry(&[read_entry::<false>(record)], row),
+        (Some((record, _)), Order::Big) => put_each_entry(&[read_entry::<true>(record)], row),
+        (None, _) => row.refuse(),
     }
 }
 
-fn entry_in(row: &[u8]) -> Result<Entry, Odd> {
-    let (strx, row) = number32(row)?;
-    let (kind, row) = number8(row)?;
-    let (other, row) = number8(row)?;
-    let (desc, row) = number16(row)?;
-    let value = last(number32(row)?)?;
-    Ok(Entry {
-        strx,
-        kind,
-        other,
-        desc,
-        value,
-    })
-}
-
-fn write(row: &[u8], out: &mut Text) -> Result<(), Odd> {
-    let (order, row) = order(row)?;
-    let entry = entry_in(row)?;
-    let written = match order {
-        Order::Little => write_entry::<false>(&entry),
-        Order::Big => write_entry::<true>(&entry),
+fn write(row: &mut Row) {
+    let order = row.order();
+    let entry = Entry {
+        strx: row.number32(),
+        kind: row.number8(),
+        other: row.number8(),
+        desc: row.number16(),
+        value: row.number32(),
     };
-    Ok(put_bytes_word(&written, out)?)
+    match order {
+        Order::Little => row.put_bytes(&write_entry::<false>(&entry)),
+        Order::Big => row.put_bytes(&write_entry::<true>(&entry)),
+    }
 }
 
-fn read_all(alloc: Global, row: &[u8], out: &mut Text) -> Result<(), Odd> {
-    let (order, row) = order(row)?;
-    let spelled = last(bytes(alloc, row)?)?;
+fn read_all(row: &mut Row) {
+    let order = row.order();
+    let spelled = row.bytes();
     if spelled.bytes().len() % 12 != 0 {
-        return Err(Odd::Row);
+        return row.refuse();
     }
-    let entries = read_entries(alloc, order, spelled.bytes())?;
-    put_number(entries.len() as u64, out)?;
-    put_each_entry(entries.items(), out)
+    match read_entries(row.alloc, order, spelled.bytes()) {
+        Ok(entries) => {
+            row.put_number(entries.len() as u64);
+            put_each_entry(entries.items(), row);
+        }
+        Err(_) => row.lose(),
+    }
 }
 
 #[derive(Drop)]
 struct NlistCodec;
 
 impl Calls for NlistCodec {
-    fn answer(
-        &mut self,
-        alloc: Global,
-        call: &[u8],
-        row: &[u8],
-        out: &mut Text,
-    ) -> Result<(), Odd> {
+    fn answer(&mut self, call: &str, row: &mut Row) {
         match call {
-            b"read_entry" => read(alloc, row, out),
-            b"write_entry" => write(row, out),
-            b"read_entries" => read_all(alloc, row, out),
-            _ => Err(Odd::Row),
+            "read_entry" => read(row),
+            "write_entry" => write(row),
+            "read_entries" => read_all(row),
+            _ => row.refuse(),
         }
     }
 }

@@ -1,6 +1,4 @@
-use crate::answers::{put_bytes_word, put_word};
-use crate::table::{Calls, Odd, all_hold};
-use crate::words::{bytes, last, number};
+use crate::holds::all_hold;
 use outside::{
     DiskFiles, Files, Loaded, MemoryFiles, MemorySink, Put, Sink, Stored, StreamSink, SureFiles,
     SureSink,
@@ -9,54 +7,103 @@ use st_base::{Memory, Text};
 use std::alloc::Global;
 use std::fs;
 use std::fs::File;
+use std::process::Abort;
 use std::test::Fail;
+use test_tables::{Calls, Row};
 
-// ---- files
-
-/// Files, on which the rows of a table are called one after another.
+/// Files and a sink, on which the rows of a table are called one after another.
 #[derive(Drop)]
-struct FileRows<F: Files + Drop> {
+struct Outside<F: Files + Drop, S: Sink + Drop> {
     files: F,
+    sink: S,
+}
+
+fn put_loaded(loaded: Loaded, row: &mut Row) {
+    match loaded {
+        Loaded::Bytes(text) => row.put_bytes(text.bytes()),
+        Loaded::Absent => row.put(b"absent"),
+        Loaded::Long => row.put(b"long"),
+        Loaded::Failed => row.put(b"failed"),
+        Loaded::Memory => row.lose(),
+    }
 }
 
 /// A name, and the most bytes.
-fn load<F: Files>(files: &mut F, alloc: Global, row: &[u8], out: &mut Text) -> Result<(), Odd> {
-    let (name, row) = bytes(alloc, row)?;
-    let most = last(number(row)?)?;
-    match files.load(alloc, name, most) {
-        Loaded::Bytes(text) => Ok(put_bytes_word(text.bytes(), out)?),
-        Loaded::Absent => Ok(put_word(b"absent", out)?),
-        Loaded::Long => Ok(put_word(b"long", out)?),
-        Loaded::Failed => Ok(put_word(b"failed", out)?),
-        Loaded::Memory => Err(Odd::Memory),
-    }
+fn load<F: Files>(files: &mut F, row: &mut Row) {
+    let name = row.bytes();
+    let most = row.number();
+    put_loaded(files.load(row.alloc, name, most), row);
 }
 
 /// A name, and its bytes.
-fn store<F: Files>(files: &mut F, alloc: Global, row: &[u8], out: &mut Text) -> Result<(), Odd> {
-    let (name, row) = bytes(alloc, row)?;
-    let content = last(bytes(alloc, row)?)?;
-    match files.store(alloc, &name, &content) {
-        Stored::Done => Ok(put_word(b"done", out)?),
-        Stored::Failed => Ok(put_word(b"failed", out)?),
-        Stored::Memory => Err(Odd::Memory),
+fn store<F: Files>(files: &mut F, row: &mut Row) {
+    let name = row.bytes();
+    let content = row.bytes();
+    match files.store(row.alloc, &name, &content) {
+        Stored::Done => row.put(b"done"),
+        Stored::Failed => row.put(b"failed"),
+        Stored::Memory => row.lose(),
     }
 }
 
-impl<F: Files + Drop> Calls for FileRows<F> {
-    fn answer(
-        &mut self,
-        alloc: Global,
-        call: &[u8],
-        row: &[u8],
-        out: &mut Text,
-    ) -> Result<(), Odd> {
+/// More bytes than one read is asked for.
+fn long_text(alloc: Global) -> Result<Text, Memory> {
+    let mut text = Text::new(alloc);
+    for number in 0..150_001u32 {
+        text.push((number % 251) as u8)?;
+    }
+    Ok(text)
+}
+
+/// Whether the bytes are stored under a name, and loaded from it again.
+fn is_kept<F: Files>(files: &mut F, alloc: Global, name: Text, bytes: &Text) -> bool {
+    let stored = files.store(alloc, &name, bytes);
+    match files.load(alloc, name, 150_001) {
+        Loaded::Bytes(loaded) => stored == Stored::Done && loaded.bytes() == bytes.bytes(),
+        _ => false,
+    }
+}
+
+/// The name of a long file.
+fn keep<F: Files>(files: &mut F, row: &mut Row) {
+    let name = row.bytes();
+    match long_text(row.alloc) {
+        Ok(bytes) => {
+            if is_kept(files, row.alloc, name, &bytes) {
+                row.put(b"kept");
+            } else {
+                row.put(b"lost");
+            }
+        }
+        Err(_) => row.lose(),
+    }
+}
+
+/// What the sink takes.
+fn put<S: Sink>(sink: &mut S, row: &mut Row) {
+    let piece = row.bytes();
+    match sink.put(piece.bytes()) {
+        Put::Done => row.put(b"done"),
+        Put::Failed => row.put(b"failed"),
+        Put::Memory => row.lose(),
+    }
+}
+
+impl<F: Files + Drop, S: Sink + Drop> Calls for Outside<F, S> {
+    fn answer(&mut self, call: &str, row: &mut Row) {
         match call {
-            b"load" => load(&mut self.files, alloc, row, out),
-            b"store" => store(&mut self.files, alloc, row, out),
-            _ => Err(Odd::Row),
+            "load" => load(&mut self.files, row),
+            "store" => store(&mut self.files, row),
+            "keep" => keep(&mut self.files, row),
+            "put" => put(&mut self.sink, row),
+            _ => row.refuse(),
         }
     }
+}
+
+/// Asserts what a sink was given.
+fn is_written(rt: &impl Abort, written: &[u8], said: &[u8]) {
+    assert_eq!(rt; written, said);
 }
 
 /// The file a.o holds `one`, and the calls 2 and 4, counted from 0, fail.
@@ -66,6 +113,13 @@ fn memory_files(alloc: Global) -> Result<MemoryFiles, Memory> {
     files.fail_at(4)?;
     files.hold(Text::of(alloc, b"a.o")?, Text::of(alloc, b"one")?)?;
     Ok(files)
+}
+
+/// The put 1, counted from 0, fails.
+fn memory_sink(alloc: Global) -> Result<MemorySink, Memory> {
+    let mut sink = MemorySink::new(alloc);
+    sink.fail_at(1)?;
+    Ok(sink)
 }
 
 const IN_MEMORY: &[u8] = b"
@@ -83,12 +137,23 @@ store 'b.o' . -> done
 load 'b.o' 0 -> .
 load 'a.o' 9 -> 'two'
 load . 9 -> absent
+
+# a put that fails leaves nothing
+put 'one'20 -> done
+put 'two'20 -> failed
+put . -> done
+put 'three' -> done
 ";
 
 #[test]
-fn files_in_memory_answer(rt: HostRuntime) -> Result<(), Fail> {
-    let files = memory_files(rt.alloc())?;
-    all_hold(&rt, rt.alloc(), &mut FileRows { files }, IN_MEMORY);
+fn files_and_a_sink_in_memory_answer(rt: HostRuntime) -> Result<(), Fail> {
+    let alloc = rt.alloc();
+    let mut calls = Outside {
+        files: memory_files(alloc)?,
+        sink: memory_sink(alloc)?,
+    };
+    all_hold(&rt, alloc, &mut calls, IN_MEMORY);
+    is_written(&rt, calls.sink.written(), b"one three");
     Ok(())
 }
 
@@ -107,12 +172,20 @@ store 'b.o' 'two' -> done
 store 'a.o' . -> done
 load 'b.o' 9 -> 'two'
 load 'a.o' 0 -> .
+put 'stab'0a -> done
+put . -> done
+put 00ff -> done
 ";
 
 #[test]
-fn sure_files_answer(rt: HostRuntime) -> Result<(), Fail> {
-    let files = sure_files(rt.alloc())?;
-    all_hold(&rt, rt.alloc(), &mut FileRows { files }, SURE);
+fn sure_files_and_a_sure_sink_answer(rt: HostRuntime) -> Result<(), Fail> {
+    let alloc = rt.alloc();
+    let mut calls = Outside {
+        files: sure_files(alloc)?,
+        sink: SureSink::new(alloc),
+    };
+    all_hold(&rt, alloc, &mut calls, SURE);
+    is_written(&rt, calls.sink.written(), b"stab\n\x00\xff");
     Ok(())
 }
 
@@ -129,124 +202,30 @@ load '.' 5 -> failed
 store '.' 'x' -> failed
 load ff 5 -> failed
 store ff 'x' -> failed
-";
 
-#[test]
-fn files_on_disk_answer(rt: HostRuntime) -> Result<(), Fail> {
-    let files = DiskFiles::new(rt.clone()?);
-    all_hold(&rt, rt.alloc(), &mut FileRows { files }, ON_DISK);
-    fs::remove_file(&rt, "library_tests_a.tmp")?;
-    Ok(())
-}
+# more bytes than one read is asked for
+keep 'library_tests_long.tmp' -> kept
 
-/// More bytes than one read is asked for.
-fn long_text(alloc: Global) -> Result<Text, Memory> {
-    let mut text = Text::new(alloc);
-    for number in 0..150_001u32 {
-        text.push((number % 251) as u8)?;
-    }
-    Ok(text)
-}
-
-/// Whether the bytes are stored under a name, and loaded from it again.
-fn is_kept<F: Files>(
-    files: &mut F,
-    alloc: Global,
-    name: &[u8],
-    bytes: &Text,
-) -> Result<bool, Memory> {
-    let stored = files.store(alloc, &Text::of(alloc, name)?, bytes);
-    match files.load(alloc, Text::of(alloc, name)?, 150_001) {
-        Loaded::Bytes(loaded) => Ok(stored == Stored::Done && loaded.bytes() == bytes.bytes()),
-        _ => Ok(false),
-    }
-}
-
-#[test]
-fn a_long_file_is_stored_and_loaded(rt: HostRuntime) -> Result<(), Fail> {
-    let alloc = rt.alloc();
-    let bytes = long_text(alloc)?;
-    let mut files = DiskFiles::new(rt.clone()?);
-    let is_kept = is_kept(&mut files, alloc, b"library_tests_long.tmp", &bytes)?;
-    fs::remove_file(&rt, "library_tests_long.tmp")?;
-    assert!(rt; is_kept);
-    Ok(())
-}
-
-// ---- sinks
-
-/// A sink, into which the rows of a table are put one after another.
-#[derive(Drop)]
-struct SinkRows<S: Sink + Drop> {
-    sink: S,
-}
-
-fn put<S: Sink>(sink: &mut S, alloc: Global, row: &[u8], out: &mut Text) -> Result<(), Odd> {
-    let piece = last(bytes(alloc, row)?)?;
-    match sink.put(piece.bytes()) {
-        Put::Done => Ok(put_word(b"done", out)?),
-        Put::Failed => Ok(put_word(b"failed", out)?),
-        Put::Memory => Err(Odd::Memory),
-    }
-}
-
-impl<S: Sink + Drop> Calls for SinkRows<S> {
-    fn answer(
-        &mut self,
-        alloc: Global,
-        call: &[u8],
-        row: &[u8],
-        out: &mut Text,
-    ) -> Result<(), Odd> {
-        match call {
-            b"put" => put(&mut self.sink, alloc, row, out),
-            _ => Err(Odd::Row),
-        }
-    }
-}
-
-// The put 1, counted from 0, fails.
-const PUTS: &[u8] = b"
-put 'one'20 -> done
-put 'two'20 -> failed
-put . -> done
-put 'three' -> done
-";
-
-#[test]
-fn a_sink_in_memory_answers(rt: HostRuntime) -> Result<(), Fail> {
-    let mut sink = MemorySink::new(rt.alloc());
-    sink.fail_at(1)?;
-    let mut rows = SinkRows { sink };
-    all_hold(&rt, rt.alloc(), &mut rows, PUTS);
-    assert_eq!(rt; rows.sink.written(), b"one three".as_slice());
-    Ok(())
-}
-
-const SURE_PUTS: &[u8] = b"
+# what a sink takes stands in its file
 put 'stab'0a -> done
 put . -> done
 put 00ff -> done
-";
-
-#[test]
-fn a_sure_sink_answers(rt: HostRuntime) {
-    let sink = SureSink::new(rt.alloc());
-    let mut rows = SinkRows { sink };
-    all_hold(&rt, rt.alloc(), &mut rows, SURE_PUTS);
-    assert_eq!(rt; rows.sink.written(), b"stab\n\x00\xff".as_slice());
-}
-
-const PRINTED: &[u8] = b"
 load 'library_tests_printed.tmp' 7 -> 'stab'0a00ff
 ";
 
 #[test]
-fn what_a_sink_takes_stands_in_its_file(rt: HostRuntime) -> Result<(), Fail> {
-    let sink = StreamSink::new(File::create(&rt, "library_tests_printed.tmp")?);
-    all_hold(&rt, rt.alloc(), &mut SinkRows { sink }, SURE_PUTS);
-    let files = DiskFiles::new(rt.clone()?);
-    all_hold(&rt, rt.alloc(), &mut FileRows { files }, PRINTED);
-    fs::remove_file(&rt, "library_tests_printed.tmp")?;
+fn files_and_a_sink_on_disk_answer(rt: HostRuntime) -> Result<(), Fail> {
+    let mut calls = Outside {
+        files: DiskFiles::new(rt.clone()?),
+        sink: StreamSink::new(File::create(&rt, "library_tests_printed.tmp")?),
+    };
+    all_hold(&rt, rt.alloc(), &mut calls, ON_DISK);
+    for name in [
+        "library_tests_a.tmp",
+        "library_tests_long.tmp",
+        "library_tests_printed.tmp",
+    ] {
+        fs::remove_file(&rt, name)?;
+    }
     Ok(())
 }

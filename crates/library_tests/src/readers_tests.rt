@@ -1,146 +1,137 @@
-use crate::answers::{put_bytes_word, put_number, put_word};
-use crate::table::{Calls, Odd, all_hold};
-use crate::words::{bytes, last, number8, number32, word};
+use crate::holds::all_hold;
 use readers::{
     Refusal, Stop, TextFault, Unread, bad, byte_at, digits_at, is_digit, name_at, number_and,
     number_at, text_of, told, whole_number,
 };
-use st_base::Text;
-use std::alloc::Global;
+use test_tables::{Calls, Row, shown};
 
 // ---- answers
 
-fn put_at(name: &[u8], place: usize, out: &mut Text) -> Result<(), Odd> {
-    put_word(name, out)?;
-    Ok(put_number(place as u64, out)?)
+fn put_at(name: &[u8], place: usize, row: &mut Row) {
+    row.put(name);
+    row.put_number(place as u64);
 }
 
-fn put_refusal(refusal: Refusal, out: &mut Text) -> Result<(), Odd> {
+fn put_refusal(refusal: Refusal, row: &mut Row) {
     match refusal {
-        Refusal::Memory => Err(Odd::Memory),
-        Refusal::At(Stop::End) => Ok(put_word(b"end", out)?),
-        Refusal::At(Stop::Bad(left)) => put_at(b"bad", left, out),
-        Refusal::At(Stop::Deep(left)) => put_at(b"deep", left, out),
-    }
-}
-
-fn put_whole(read: Option<u32>, out: &mut Text) -> Result<(), Odd> {
-    match read {
-        Some(number) => Ok(put_number(u64::from(number), out)?),
-        None => Ok(put_word(b"none", out)?),
+        Refusal::Memory => row.lose(),
+        Refusal::At(Stop::End) => row.put(b"end"),
+        Refusal::At(Stop::Bad(left)) => put_at(b"bad", left, row),
+        Refusal::At(Stop::Deep(left)) => put_at(b"deep", left, row),
     }
 }
 
 /// The number that was read, and what stands behind it.
-fn put_numbered(read: Result<(u32, &[u8]), Refusal>, out: &mut Text) -> Result<(), Odd> {
+fn put_numbered(read: Result<(u32, &[u8]), Refusal>, row: &mut Row) {
     match read {
         Ok((number, rest)) => {
-            put_number(u64::from(number), out)?;
-            Ok(put_bytes_word(rest, out)?)
+            row.put_number(u64::from(number));
+            row.put_bytes(rest);
         }
-        Err(refusal) => put_refusal(refusal, out),
+        Err(refusal) => put_refusal(refusal, row),
     }
 }
 
 /// The bytes that were read, and what stands behind them.
-fn put_parted(read: Result<(&[u8], &[u8]), Refusal>, out: &mut Text) -> Result<(), Odd> {
+fn put_parted(read: Result<(&[u8], &[u8]), Refusal>, row: &mut Row) {
     match read {
         Ok((front, rest)) => {
-            put_bytes_word(front, out)?;
-            Ok(put_bytes_word(rest, out)?)
+            row.put_bytes(front);
+            row.put_bytes(rest);
         }
-        Err(refusal) => put_refusal(refusal, out),
+        Err(refusal) => put_refusal(refusal, row),
+    }
+}
+
+fn put_unread(unread: Unread, row: &mut Row) {
+    match unread {
+        Unread::Memory => row.put(b"memory"),
+        Unread::At(TextFault::Byte(place)) => put_at(b"byte", place, row),
+        Unread::At(TextFault::End(place)) => put_at(b"end", place, row),
+        Unread::At(TextFault::Deep(place)) => put_at(b"deep", place, row),
     }
 }
 
 // ---- calls
 
 /// The greatest number, at least 9, and the text.
-fn limited(alloc: Global, row: &[u8], call: &[u8], out: &mut Text) -> Result<(), Odd> {
-    let (limit, row) = number32(row)?;
-    let (text, row) = bytes(alloc, row)?;
+fn limited(call: &str, row: &mut Row) {
+    let limit = row.number32();
+    let text = row.bytes();
     if limit < 9 {
-        return Err(Odd::Row);
+        return row.refuse();
     }
     match call {
-        b"whole_number" => put_whole(whole_number(limit, text.bytes()), out),
-        b"number_at" => put_numbered(number_at(limit, text.bytes()), out),
+        "whole_number" => match whole_number(limit, text.bytes()) {
+            Some(number) => row.put_number(u64::from(number)),
+            None => row.put(b"none"),
+        },
+        "number_at" => put_numbered(number_at(limit, text.bytes()), row),
         _ => {
-            let end = last(number8(row)?)?;
-            put_numbered(number_and(limit, end, text.bytes()), out)
+            let end = row.number8();
+            put_numbered(number_and(limit, end, text.bytes()), row);
         }
     }
 }
 
 /// The byte at the end, the byte that is barred, and the text.
-fn name(alloc: Global, row: &[u8], out: &mut Text) -> Result<(), Odd> {
-    let (end, row) = number8(row)?;
-    let (barred, row) = number8(row)?;
-    let text = last(bytes(alloc, row)?)?;
-    put_parted(name_at(end, barred, text.bytes()), out)
+fn name(row: &mut Row) {
+    let end = row.number8();
+    let barred = row.number8();
+    let text = row.bytes();
+    put_parted(name_at(end, barred, text.bytes()), row);
 }
 
-fn digits(alloc: Global, row: &[u8], out: &mut Text) -> Result<(), Odd> {
-    let (more, row) = number8(row)?;
-    let text = last(bytes(alloc, row)?)?;
-    put_parted(digits_at(usize::from(more), text.bytes()), out)
+fn digits(row: &mut Row) {
+    let more = row.number8();
+    let text = row.bytes();
+    put_parted(digits_at(usize::from(more), text.bytes()), row);
 }
 
-fn byte(alloc: Global, row: &[u8], out: &mut Text) -> Result<(), Odd> {
-    let (wanted, row) = number8(row)?;
-    let text = last(bytes(alloc, row)?)?;
+fn byte(row: &mut Row) {
+    let wanted = row.number8();
+    let text = row.bytes();
     match byte_at(wanted, text.bytes()) {
-        Ok(((), rest)) => Ok(put_bytes_word(rest, out)?),
-        Err(refusal) => put_refusal(refusal, out),
+        Ok(((), rest)) => row.put_bytes(rest),
+        Err(refusal) => put_refusal(refusal, row),
     }
 }
 
-fn digit(row: &[u8], out: &mut Text) -> Result<(), Odd> {
-    let b = last(number8(row)?)?;
-    let answer = if is_digit(b) {
-        b"yes".as_slice()
+fn digit(row: &mut Row) {
+    if is_digit(row.number8()) {
+        row.put(b"yes");
     } else {
-        b"no"
-    };
-    Ok(put_word(answer, out)?)
-}
-
-fn text(alloc: Global, row: &[u8], out: &mut Text) -> Result<(), Odd> {
-    let bytes = last(bytes(alloc, row)?)?;
-    match text_of(alloc, bytes.bytes()) {
-        Ok(text) => Ok(put_bytes_word(text.bytes(), out)?),
-        Err(refusal) => put_refusal(refusal, out),
+        row.put(b"no");
     }
 }
 
-fn wrong(alloc: Global, row: &[u8], out: &mut Text) -> Result<(), Odd> {
-    let text = last(bytes(alloc, row)?)?;
-    put_refusal(bad(text.bytes()), out)
+fn text(row: &mut Row) {
+    let bytes = row.bytes();
+    match text_of(row.alloc, bytes.bytes()) {
+        Ok(text) => row.put_bytes(text.bytes()),
+        Err(refusal) => put_refusal(refusal, row),
+    }
 }
 
-fn put_unread(unread: Unread, out: &mut Text) -> Result<(), Odd> {
-    match unread {
-        Unread::Memory => Ok(put_word(b"memory", out)?),
-        Unread::At(TextFault::Byte(place)) => put_at(b"byte", place, out),
-        Unread::At(TextFault::End(place)) => put_at(b"end", place, out),
-        Unread::At(TextFault::Deep(place)) => put_at(b"deep", place, out),
-    }
+fn wrong(row: &mut Row) {
+    let text = row.bytes();
+    put_refusal(bad(text.bytes()), row);
 }
 
 /// The length of a text, why reading stops, and how many bytes are left there, not more than the length.
-fn place(row: &[u8], out: &mut Text) -> Result<(), Odd> {
-    let (all, row) = number8(row)?;
-    let (why, row) = word(row);
-    let left = last(number8(row)?)?;
-    let (all, left) = (usize::from(all), usize::from(left));
+fn place(row: &mut Row) {
+    let all = usize::from(row.number8());
+    let why = shown(row.word());
+    let left = usize::from(row.number8());
     if all < left {
-        return Err(Odd::Row);
+        return row.refuse();
     }
     match why {
-        b"bad" => put_unread(told(all, Refusal::At(Stop::Bad(left))), out),
-        b"deep" => put_unread(told(all, Refusal::At(Stop::Deep(left))), out),
-        b"end" => put_unread(told(all, Refusal::At(Stop::End)), out),
-        _ => put_unread(told(all, Refusal::Memory), out),
+        "bad" => put_unread(told(all, Refusal::At(Stop::Bad(left))), row),
+        "deep" => put_unread(told(all, Refusal::At(Stop::Deep(left))), row),
+        "end" => put_unread(told(all, Refusal::At(Stop::End)), row),
+        "memory" => put_unread(told(all, Refusal::Memory), row),
+        _ => row.refuse(),
     }
 }
 
@@ -148,25 +139,19 @@ fn place(row: &[u8], out: &mut Text) -> Result<(), Odd> {
 struct Readers;
 
 impl Calls for Readers {
-    fn answer(
-        &mut self,
-        alloc: Global,
-        call: &[u8],
-        row: &[u8],
-        out: &mut Text,
-    ) -> Result<(), Odd> {
+    fn answer(&mut self, call: &str, row: &mut Row) {
         match call {
-            b"whole_number" => limited(alloc, row, call, out),
-            b"number_at" => limited(alloc, row, call, out),
-            b"number_and" => limited(alloc, row, call, out),
-            b"name_at" => name(alloc, row, out),
-            b"digits_at" => digits(alloc, row, out),
-            b"byte_at" => byte(alloc, row, out),
-            b"is_digit" => digit(row, out),
-            b"text_of" => text(alloc, row, out),
-            b"bad" => wrong(alloc, row, out),
-            b"told" => place(row, out),
-            _ => Err(Odd::Row),
+            "whole_number" => limited(call, row),
+            "number_at" => limited(call, row),
+            "number_and" => limited(call, row),
+            "name_at" => name(row),
+            "digits_at" => digits(row),
+            "byte_at" => byte(row),
+            "is_digit" => digit(row),
+            "text_of" => text(row),
+            "bad" => wrong(row),
+            "told" => place(row),
+            _ => row.refuse(),
         }
     }
 }

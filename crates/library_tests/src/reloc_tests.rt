@@ -1,125 +1,105 @@
-use crate::answers::{put_bytes_word, put_fault, put_number, put_word};
-use crate::table::{Calls, Odd, all_hold};
-use crate::words::{bytes, last, number8, number32, order, word};
+use crate::holds::all_hold;
 use reloc::{Reloc, apply, read_reloc, write_reloc};
-use st_base::{Fault, Order, Text};
-use std::alloc::Global;
+use st_base::Order;
+use test_tables::{Calls, Row, shown};
 
-/// Appends the address, the symbol, the bytes of the field, and the flags that are set.
-pub fn put_reloc(reloc: &Reloc, out: &mut Text) -> Result<(), Odd> {
-    put_number(u64::from(reloc.address), out)?;
-    put_number(u64::from(reloc.symbol), out)?;
-    put_number(u64::from(reloc.length), out)?;
+/// Writes the address, the symbol, the bytes of the field, and the flags that are set.
+pub fn put_reloc(reloc: &Reloc, row: &mut Row) {
+    row.put_numbers(&[reloc.address, reloc.symbol, u32::from(reloc.length)]);
     if reloc.pcrel {
-        put_word(b"pcrel", out)?;
+        row.put(b"pcrel");
     }
     if reloc.external {
-        put_word(b"external", out)?;
+        row.put(b"external");
     }
-    Ok(())
 }
 
-fn read(alloc: Global, row: &[u8], out: &mut Text) -> Result<(), Odd> {
-    let (order, row) = order(row)?;
-    let spelled = last(bytes(alloc, row)?)?;
+fn read(row: &mut Row) {
+    let order = row.order();
+    let spelled = row.bytes();
     let Some((record, _)) = spelled.bytes().split_first_chunk::<8>() else {
-        return Err(Odd::Row);
+        return row.refuse();
     };
     let read = match order {
         Order::Little => read_reloc::<false>(record),
         Order::Big => read_reloc::<true>(record),
     };
     match read {
-        Ok(reloc) => put_reloc(&reloc, out),
-        Err(fault) => Ok(put_fault(&fault, out)?),
+        Ok(reloc) => put_reloc(&reloc, row),
+        Err(fault) => row.put_fault(&fault),
     }
 }
 
-/// Whether `pcrel`, and whether `external` stands among the flags.
-fn flags_in(flags: &[u8]) -> Result<(bool, bool), Odd> {
-    match flags {
-        b"" => Ok((false, false)),
-        b"pcrel" => Ok((true, false)),
-        b"external" => Ok((false, true)),
-        b"pcrel external" => Ok((true, true)),
-        _ => Err(Odd::Row),
+/// Whether `pcrel`, and whether `external` stands among the flags that are left.
+fn flags_in(row: &mut Row) -> (bool, bool) {
+    match shown(row.rest()) {
+        "" => (false, false),
+        "pcrel" => (true, false),
+        "external" => (false, true),
+        "pcrel external" => (true, true),
+        _ => {
+            row.refuse();
+            (false, false)
+        }
     }
 }
 
 /// The address, the symbol, the length, and which of the two flags are set.
-fn reloc_in(row: &[u8]) -> Result<Reloc, Odd> {
-    let (address, row) = number32(row)?;
-    let (symbol, row) = number32(row)?;
-    let (length, row) = number8(row)?;
-    let (pcrel, external) = flags_in(row)?;
-    Ok(Reloc {
+fn reloc_in(row: &mut Row) -> Reloc {
+    let address = row.number32();
+    let symbol = row.number32();
+    let length = row.number8();
+    let (pcrel, external) = flags_in(row);
+    Reloc {
         address,
         symbol,
         pcrel,
         length,
         external,
-    })
+    }
 }
 
-fn write(row: &[u8], out: &mut Text) -> Result<(), Odd> {
-    let (order, row) = order(row)?;
-    let reloc = reloc_in(row)?;
+fn write(row: &mut Row) {
+    let order = row.order();
+    let reloc = reloc_in(row);
     let symbol = reloc.symbol;
     let is_segment = symbol == 2 || symbol == 4 || symbol == 6 || symbol == 8;
     if 2 < reloc.length || 0xff_ffff < symbol || !(reloc.external || is_segment) {
-        return Err(Odd::Row);
+        return row.refuse();
     }
-    let written = match order {
-        Order::Little => write_reloc::<false>(&reloc),
-        Order::Big => write_reloc::<true>(&reloc),
-    };
-    Ok(put_bytes_word(&written, out)?)
-}
-
-fn applied(
-    order: Order,
-    segment: &mut [u8],
-    reloc: &Reloc,
-    add: u32,
-) -> Result<Result<(), Fault>, Odd> {
-    if 2 < reloc.length {
-        return Err(Odd::Row);
+    match order {
+        Order::Little => row.put_bytes(&write_reloc::<false>(&reloc)),
+        Order::Big => row.put_bytes(&write_reloc::<true>(&reloc)),
     }
-    Ok(match order {
-        Order::Little => apply::<false>(segment, reloc, add),
-        Order::Big => apply::<true>(segment, reloc, add),
-    })
 }
 
 /// An order, a segment, an amount, and a relocation: the answer, and the segment afterwards.
-fn add(alloc: Global, row: &[u8], out: &mut Text) -> Result<(), Odd> {
-    let (order, row) = order(row)?;
-    let (mut segment, row) = bytes(alloc, row)?;
-    let (amount, row) = number32(row)?;
-    let reloc = reloc_in(row)?;
-    match applied(order, segment.bytes_mut(), &reloc, amount)? {
-        Ok(()) => put_word(b"ok", out)?,
-        Err(fault) => put_fault(&fault, out)?,
+fn add(row: &mut Row) {
+    let order = row.order();
+    let mut segment = row.bytes();
+    let amount = row.number32();
+    let reloc = reloc_in(row);
+    if 2 < reloc.length {
+        return row.refuse();
     }
-    Ok(put_bytes_word(segment.bytes(), out)?)
+    let applied = match order {
+        Order::Little => apply::<false>(segment.bytes_mut(), &reloc, amount),
+        Order::Big => apply::<true>(segment.bytes_mut(), &reloc, amount),
+    };
+    row.put_checked(applied);
+    row.put_bytes(segment.bytes());
 }
 
 #[derive(Drop)]
 struct Relocs;
 
 impl Calls for Relocs {
-    fn answer(
-        &mut self,
-        alloc: Global,
-        call: &[u8],
-        row: &[u8],
-        out: &mut Text,
-    ) -> Result<(), Odd> {
+    fn answer(&mut self, call: &str, row: &mut Row) {
         match call {
-            b"read_reloc" => read(alloc, row, out),
-            b"write_reloc" => write(row, out),
-            b"apply" => add(alloc, row, out),
-            _ => Err(Odd::Row),
+            "read_reloc" => read(row),
+            "write_reloc" => write(row),
+            "apply" => add(row),
+            _ => row.refuse(),
         }
     }
 }

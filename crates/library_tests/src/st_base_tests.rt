@@ -1,162 +1,144 @@
-use crate::answers::{put_bytes_word, put_fault, put_number, put_word, put_word32};
-use crate::table::{Calls, Odd, all_hold};
-use crate::words::{bytes, last, number, number8, number16, number32, order, word};
+use crate::holds::all_hold;
 use st_base::{
-    Boxed, Fault, Layout, List, Order, Steps, Text, first_word, put_hex2, put_hex4, put_hex8,
-    set_first_word, show,
+    Boxed, Fault, Layout, List, Memory, Order, Steps, Text, first_word, put_hex2, put_hex4,
+    put_hex8, put_number, set_first_word, show,
 };
 use std::alloc::Global;
 use std::marker::Brand;
+use test_tables::{Calls, Row, shown};
 
 // ---- the shown form
 
-fn shown_form(alloc: Global, row: &[u8], out: &mut Text) -> Result<(), Odd> {
-    let text = last(bytes(alloc, row)?)?;
-    let mut shown = Text::new(alloc);
-    show(&mut shown, text.bytes())?;
-    Ok(put_bytes_word(shown.bytes(), out)?)
+fn shown_form(row: &mut Row) {
+    let text = row.bytes();
+    let mut out = Text::new(row.alloc);
+    let written = show(&mut out, text.bytes());
+    row.wrote(written);
+    row.put_bytes(out.bytes());
 }
 
 // ---- numerals
 
 // The number in decimal, the lowest byte in two digits, the lowest two in four, and all in eight.
-fn numerals(alloc: Global, row: &[u8], out: &mut Text) -> Result<(), Odd> {
-    let number = last(number32(row)?)?;
-    let mut text = Text::new(alloc);
-    st_base::put_number(u64::from(number), &mut text)?;
-    text.push(b' ')?;
-    put_hex2((number % 0x100) as u8, &mut text)?;
-    text.push(b' ')?;
-    put_hex4((number % 0x1_0000) as u16, &mut text)?;
-    text.push(b' ')?;
-    put_hex8(number, &mut text)?;
-    Ok(put_bytes_word(text.bytes(), out)?)
+fn put_numerals(number: u32, out: &mut Text) -> Result<(), Memory> {
+    put_number(u64::from(number), out)?;
+    out.push(b' ')?;
+    put_hex2((number % 0x100) as u8, out)?;
+    out.push(b' ')?;
+    put_hex4((number % 0x1_0000) as u16, out)?;
+    out.push(b' ')?;
+    put_hex8(number, out)
+}
+
+fn numerals(row: &mut Row) {
+    let mut out = Text::new(row.alloc);
+    let written = put_numerals(row.number32(), &mut out);
+    row.wrote(written);
+    row.put_bytes(out.bytes());
 }
 
 // ---- fields
 
-/// Sets so many bytes at a place, which is at most 8, to a number.
-fn set_field<const BIG: bool>(
-    record: &mut [u8; 12],
-    at: usize,
-    width: u8,
-    value: u32,
-) -> Result<(), Odd> {
+/// A place, which is at most 8, how many bytes, and a number: twelve bytes 0xee with the number set, and the number that is read there.
+fn field_in<const BIG: bool>(row: &mut Row) {
+    let at = usize::from(row.number8());
+    let width = row.number8();
+    let value = row.number32();
     if 8 < at {
-        return Err(Odd::Row);
+        return row.refuse();
     }
-    match width {
-        1 => Layout::<BIG, 12>::put_u8(record, at, (value % 0x100) as u8),
-        2 => Layout::<BIG, 12>::put_u16(record, at, (value % 0x1_0000) as u16),
-        3 => Layout::<BIG, 12>::put_u24(record, at, value % 0x100_0000),
-        _ => Layout::<BIG, 12>::put_u32(record, at, value),
-    }
-    Ok(())
-}
-
-/// The number of so many bytes at a place, which is at most 8.
-fn field_at<const BIG: bool>(record: &[u8; 12], at: usize, width: u8) -> Result<u32, Odd> {
-    if 8 < at {
-        return Err(Odd::Row);
-    }
-    Ok(match width {
-        1 => u32::from(Layout::<BIG, 12>::get_u8(record, at)),
-        2 => u32::from(Layout::<BIG, 12>::get_u16(record, at)),
-        3 => Layout::<BIG, 12>::get_u24(record, at),
-        _ => Layout::<BIG, 12>::get_u32(record, at),
-    })
-}
-
-fn field_in<const BIG: bool>(row: &[u8], out: &mut Text) -> Result<(), Odd> {
-    let (at, row) = number8(row)?;
-    let (width, row) = number8(row)?;
-    let value = last(number32(row)?)?;
     let mut record = [0xee; 12];
-    set_field::<BIG>(&mut record, usize::from(at), width, value)?;
-    let read = field_at::<BIG>(&record, usize::from(at), width)?;
-    put_bytes_word(&record, out)?;
-    Ok(put_word32(read, out)?)
+    let read = match width {
+        1 => {
+            Layout::<BIG, 12>::put_u8(&mut record, at, (value % 0x100) as u8);
+            u32::from(Layout::<BIG, 12>::get_u8(&record, at))
+        }
+        2 => {
+            Layout::<BIG, 12>::put_u16(&mut record, at, (value % 0x1_0000) as u16);
+            u32::from(Layout::<BIG, 12>::get_u16(&record, at))
+        }
+        3 => {
+            Layout::<BIG, 12>::put_u24(&mut record, at, value % 0x100_0000);
+            Layout::<BIG, 12>::get_u24(&record, at)
+        }
+        _ => {
+            Layout::<BIG, 12>::put_u32(&mut record, at, value);
+            Layout::<BIG, 12>::get_u32(&record, at)
+        }
+    };
+    row.put_bytes(&record);
+    row.put_word32(read);
 }
 
-/// A place, how many bytes, and a number: twelve bytes 0xee with the number set, and the number that is read there.
-fn field(row: &[u8], out: &mut Text) -> Result<(), Odd> {
-    match order(row)? {
-        (Order::Little, row) => field_in::<false>(row, out),
-        (Order::Big, row) => field_in::<true>(row, out),
+fn field(row: &mut Row) {
+    match row.order() {
+        Order::Little => field_in::<false>(row),
+        Order::Big => field_in::<true>(row),
     }
 }
 
-fn first(alloc: Global, row: &[u8], out: &mut Text) -> Result<(), Odd> {
-    let (order, row) = order(row)?;
-    let front = last(bytes(alloc, row)?)?;
+fn first(row: &mut Row) {
+    let order = row.order();
+    let front = row.bytes();
     match first_word(order, front.bytes()) {
-        Some(first) => Ok(put_word32(first, out)?),
-        None => Ok(put_word(b"none", out)?),
+        Some(first) => row.put_word32(first),
+        None => row.put(b"none"),
     }
 }
 
-fn set_first(alloc: Global, row: &[u8], out: &mut Text) -> Result<(), Odd> {
-    let (order, row) = order(row)?;
-    let (mut front, row) = bytes(alloc, row)?;
-    let first = last(number32(row)?)?;
+fn set_first(row: &mut Row) {
+    let order = row.order();
+    let mut front = row.bytes();
+    let first = row.number32();
     if front.bytes().len() < 4 {
-        return Err(Odd::Row);
+        return row.refuse();
     }
     set_first_word(order, front.bytes_mut(), first);
-    Ok(put_bytes_word(front.bytes(), out)?)
+    row.put_bytes(front.bytes());
 }
 
 // ---- texts
 
-fn cut_text(mut text: Text, to: u64) -> Result<Text, Odd> {
-    if text.bytes().len() as u64 >= to {
-        text.cut(to as usize);
-        Ok(text)
-    } else {
-        Err(Odd::Row)
-    }
-}
-
-/// The text with another first byte.
-fn with_first(mut text: Text, byte: u8) -> Text {
-    if let [first, ..] = text.bytes_mut() {
-        *first = byte;
-    }
-    text
-}
-
-fn changed_text(alloc: Global, call: &[u8], mut text: Text, row: &[u8]) -> Result<Text, Odd> {
+fn change_text(call: &str, row: &mut Row, text: &mut Text) -> Result<(), Memory> {
     match call {
-        b"of" => Ok(text),
-        b"copy" => Ok(text.copy(alloc)?),
-        b"push" => {
-            let byte = last(number8(row)?)?;
-            text.push(byte)?;
-            Ok(text)
+        "of" => {}
+        "copy" => *text = text.copy(row.alloc)?,
+        "push" => text.push(row.number8())?,
+        "extend" => text.extend(row.bytes().bytes())?,
+        "cut" => {
+            let to = row.number32() as usize;
+            if to <= text.bytes().len() {
+                text.cut(to);
+            } else {
+                row.refuse();
+            }
         }
-        b"extend" => {
-            let more = last(bytes(alloc, row)?)?;
-            text.extend(more.bytes())?;
-            Ok(text)
-        }
-        b"cut" => cut_text(text, last(number(row)?)?),
-        b"first" => Ok(with_first(text, last(number8(row)?)?)),
-        _ => Err(Odd::Row),
+        "first" => match text.bytes_mut() {
+            [first, ..] => *first = row.number8(),
+            [] => row.refuse(),
+        },
+        _ => row.refuse(),
     }
+    Ok(())
 }
 
 /// A call, a text, and what else the call takes: the text behind the call.
-fn text_call(alloc: Global, row: &[u8], out: &mut Text) -> Result<(), Odd> {
-    let (call, row) = word(row);
-    let (start, row) = bytes(alloc, row)?;
-    let text = Text::of(alloc, start.bytes())?;
-    let changed = changed_text(alloc, call, text, row)?;
-    Ok(put_bytes_word(changed.bytes(), out)?)
+fn text_call(row: &mut Row) {
+    let call = shown(row.word());
+    let start = row.bytes();
+    match Text::of(row.alloc, start.bytes()) {
+        Ok(mut text) => {
+            let changed = change_text(call, row, &mut text);
+            row.wrote(changed);
+            row.put_bytes(text.bytes());
+        }
+        Err(_) => row.lose(),
+    }
 }
 
 // ---- lists and boxes
 
-fn list_of(alloc: Global, items: &[u8]) -> Result<List<Boxed<u8>>, Odd> {
+fn list_of(alloc: Global, items: &[u8]) -> Result<List<Boxed<u8>>, Memory> {
     let mut list = List::new(alloc);
     for item in items {
         list.push(Boxed::new(alloc, *item)?)?;
@@ -164,90 +146,89 @@ fn list_of(alloc: Global, items: &[u8]) -> Result<List<Boxed<u8>>, Odd> {
     Ok(list)
 }
 
-fn put_list(list: &List<Boxed<u8>>, out: &mut Text) -> Result<(), Odd> {
-    put_number(list.len() as u64, out)?;
+fn put_list(list: &List<Boxed<u8>>, row: &mut Row) {
+    row.put_number(list.len() as u64);
     for item in list.items() {
-        put_number(u64::from(*item.get()), out)?;
-    }
-    Ok(())
-}
-
-fn get(list: &List<Boxed<u8>>, row: &[u8], out: &mut Text) -> Result<(), Odd> {
-    let at = last(number32(row)?)?;
-    match list.get(at as usize) {
-        Some(item) => Ok(put_number(u64::from(*item.get()), out)?),
-        None => Ok(put_word(b"none", out)?),
+        row.put_number(u64::from(*item.get()));
     }
 }
 
-fn replace(
-    alloc: Global,
-    mut list: List<Boxed<u8>>,
-    row: &[u8],
-    out: &mut Text,
-) -> Result<(), Odd> {
-    let (at, row) = number32(row)?;
-    let item = last(number8(row)?)?;
-    if list.len() <= at as usize {
-        return Err(Odd::Row);
+fn get(list: &List<Boxed<u8>>, row: &mut Row) {
+    match list.get(row.number32() as usize) {
+        Some(item) => row.put_number(u64::from(*item.get())),
+        None => row.put(b"none"),
     }
-    let old = list.replace(at as usize, Boxed::new(alloc, item)?);
-    put_number(u64::from(old.into_inner()), out)?;
-    put_list(&list, out)
 }
 
-fn cut_list(mut list: List<Boxed<u8>>, row: &[u8], out: &mut Text) -> Result<(), Odd> {
-    let to = last(number32(row)?)?;
-    if list.len() < to as usize {
-        return Err(Odd::Row);
+fn replace(list: &mut List<Boxed<u8>>, row: &mut Row) {
+    let at = row.number32() as usize;
+    match Boxed::new(row.alloc, row.number8()) {
+        Ok(item) => {
+            if at < list.len() {
+                let old = list.replace(at, item);
+                row.put_number(u64::from(old.into_inner()));
+            } else {
+                row.refuse();
+            }
+        }
+        Err(_) => row.lose(),
     }
-    list.cut(to as usize);
-    put_list(&list, out)
+}
+
+fn cut_list(list: &mut List<Boxed<u8>>, row: &mut Row) {
+    let to = row.number32() as usize;
+    if to <= list.len() {
+        list.cut(to);
+    } else {
+        row.refuse();
+    }
+}
+
+fn call_list(call: &str, list: &mut List<Boxed<u8>>, row: &mut Row) {
+    match call {
+        "of" => {}
+        "get" => return get(list, row),
+        "replace" => replace(list, row),
+        "cut" => cut_list(list, row),
+        _ => row.refuse(),
+    }
+    put_list(list, row);
 }
 
 /// A call, the items of a list of boxed bytes, and what else the call takes: what it gives, and the length and the items.
-fn list_call(alloc: Global, row: &[u8], out: &mut Text) -> Result<(), Odd> {
-    let (call, row) = word(row);
-    let (items, row) = bytes(alloc, row)?;
-    let list = list_of(alloc, items.bytes())?;
-    match call {
-        b"of" => put_list(&list, out),
-        b"get" => get(&list, row, out),
-        b"replace" => replace(alloc, list, row, out),
-        b"cut" => cut_list(list, row, out),
-        _ => Err(Odd::Row),
+fn list_call(row: &mut Row) {
+    let call = shown(row.word());
+    let items = row.bytes();
+    match list_of(row.alloc, items.bytes()) {
+        Ok(mut list) => call_list(call, &mut list, row),
+        Err(_) => row.lose(),
     }
 }
 
 // ---- faults
 
-fn fault(row: &[u8], out: &mut Text) -> Result<(), Odd> {
-    let (which, row) = number16(row)?;
-    let place = last(number(row)?)?;
-    Ok(put_fault(&Fault::at(which, place), out)?)
+fn fault(row: &mut Row) {
+    let number = row.number16();
+    let place = row.number();
+    row.put_fault(&Fault::at(number, place));
 }
 
 #[derive(Drop)]
 struct StBase;
 
 impl Calls for StBase {
-    fn answer(
-        &mut self,
-        alloc: Global,
-        call: &[u8],
-        row: &[u8],
-        out: &mut Text,
-    ) -> Result<(), Odd> {
+    fn answer(&mut self, call: &str, row: &mut Row) {
         match call {
-            b"show" => shown_form(alloc, row, out),
-            b"numerals" => numerals(alloc, row, out),
-            b"field" => field(row, out),
-            b"first_word" => first(alloc, row, out),
-            b"set_first_word" => set_first(alloc, row, out),
-            b"text" => text_call(alloc, row, out),
-            b"list" => list_call(alloc, row, out),
-            b"fault" => fault(row, out),
-            _ => Err(Odd::Row),
+            "show" => shown_form(row),
+            "numerals" => numerals(row),
+            "field" => field(row),
+            "first_word" => first(row),
+            "set_first_word" => set_first(row),
+            "text" => text_call(row),
+            "list" => list_call(row),
+            "fault" => fault(row),
+            "size_of_steps" => row.put_number(std::mem::size_of::<Steps<Brand>>() as u64),
+            _ => row.refuse(),
         }
     }
 }
@@ -324,14 +305,12 @@ list cut 070509 0 -> 0
 # a number and a place
 fault 41 7 -> fault 41 7
 fault 94 4294967295 -> fault 94 4294967295
+
+# a counter of steps has no bytes
+size_of_steps -> 0
 ";
 
 #[test]
 fn st_base_answers(rt: HostRuntime) {
     all_hold(&rt, rt.alloc(), &mut StBase, ROWS);
-}
-
-#[test]
-fn a_counter_of_steps_has_no_bytes(rt: HostRuntime) {
-    assert_eq!(rt; std::mem::size_of::<Steps<Brand>>(), 0);
 }

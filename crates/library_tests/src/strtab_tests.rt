@@ -1,41 +1,23 @@
 ghost use Rattle.std.specs.Prelude.{◌≡◌, position};
 ghost use Rattle.strtab.specs.StringTable.{is_zero};
 
-use crate::answers::{put_bytes_word, put_fault, put_number, put_refused, put_word};
-use crate::table::{Calls, Odd, all_hold};
-use crate::words::{bytes, bytes_of, last, number32, order};
-use st_base::{TOO_LARGE, Text};
-use std::alloc::Global;
+use crate::holds::all_hold;
 use strtab::{Builder, check_table, name_at};
+use test_tables::{Calls, Row};
 
-fn check(alloc: Global, row: &[u8], out: &mut Text) -> Result<(), Odd> {
-    let (order, row) = order(row)?;
-    let table = last(bytes(alloc, row)?)?;
-    match check_table(order, table.bytes()) {
-        Ok(()) => Ok(put_word(b"ok", out)?),
-        Err(fault) => Ok(put_fault(&fault, out)?),
-    }
+fn check(row: &mut Row) {
+    let order = row.order();
+    let table = row.bytes();
+    row.put_checked(check_table(order, table.bytes()));
 }
 
-fn name(alloc: Global, row: &[u8], out: &mut Text) -> Result<(), Odd> {
-    let (table, row) = bytes(alloc, row)?;
-    let strx = last(number32(row)?)?;
+fn name(row: &mut Row) {
+    let table = row.bytes();
+    let strx = row.number32();
     match name_at(table.bytes(), strx) {
-        Ok(name) => Ok(put_bytes_word(name, out)?),
-        Err(fault) => Ok(put_fault(&fault, out)?),
+        Ok(name) => row.put_bytes(name),
+        Err(fault) => row.put_fault(&fault),
     }
-}
-
-/// An order, and names: the offset of each, and the table.
-fn build(alloc: Global, row: &[u8], out: &mut Text) -> Result<(), Odd> {
-    let (order, row) = order(row)?;
-    let mut builder = Builder::new(alloc)?;
-    if !row.is_empty() {
-        for spelled in row.split(|b| *b == b' ') {
-            add(alloc, &mut builder, spelled, out)?;
-        }
-    }
-    Ok(put_bytes_word(builder.finish(order).bytes(), out)?)
 }
 
 /// The place of the first zero byte.
@@ -45,14 +27,30 @@ pub fn zero_in(bytes: &[u8]) -> Option<usize>
     bytes.iter().position(|b| *b == 0)
 }
 
-fn add(alloc: Global, builder: &mut Builder, spelled: &[u8], out: &mut Text) -> Result<(), Odd> {
-    let name = bytes_of(alloc, spelled)?;
+fn add(builder: &mut Builder, spelled: &[u8], row: &mut Row) {
+    let name = row.bytes_in(spelled);
     if zero_in(name.bytes()).is_some() {
-        return Err(Odd::Row);
+        return row.refuse();
     }
     match builder.add(name.bytes()) {
-        Ok(strx) => Ok(put_number(u64::from(strx), out)?),
-        Err(refused) => put_refused(&refused, out),
+        Ok(strx) => row.put_number(u64::from(strx)),
+        Err(refused) => row.put_refused(&refused),
+    }
+}
+
+/// An order, and names: the offset of each, and the table.
+fn build(row: &mut Row) {
+    let order = row.order();
+    match Builder::new(row.alloc) {
+        Ok(mut builder) => {
+            if row.has_more() {
+                for spelled in row.rest().split(|b| *b == b' ') {
+                    add(&mut builder, spelled, row);
+                }
+            }
+            row.put_bytes(builder.finish(order).bytes());
+        }
+        Err(_) => row.lose(),
     }
 }
 
@@ -60,18 +58,12 @@ fn add(alloc: Global, builder: &mut Builder, spelled: &[u8], out: &mut Text) -> 
 struct Strtab;
 
 impl Calls for Strtab {
-    fn answer(
-        &mut self,
-        alloc: Global,
-        call: &[u8],
-        row: &[u8],
-        out: &mut Text,
-    ) -> Result<(), Odd> {
+    fn answer(&mut self, call: &str, row: &mut Row) {
         match call {
-            b"check_table" => check(alloc, row, out),
-            b"name_at" => name(alloc, row, out),
-            b"build" => build(alloc, row, out),
-            _ => Err(Odd::Row),
+            "check_table" => check(row),
+            "name_at" => name(row),
+            "build" => build(row),
+            _ => row.refuse(),
         }
     }
 }

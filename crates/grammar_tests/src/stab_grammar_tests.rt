@@ -1,19 +1,19 @@
-use crate::answers::{put_number, put_word};
-use crate::stab_strings::{parsed, put_read, symbol_of};
-use crate::table::{Calls, Odd, all_hold};
-use crate::trees::{put_descriptor, put_name, put_tree};
-use crate::words::{bytes, last, number32};
+use crate::holds::all_hold;
+use crate::stab_strings::{parsed, put_read};
+use crate::trees::{put_descriptor, put_tree};
+use crate::walks_tests::put_walk;
 use st_base::{Fault, List, Memory, Refused, Text};
 use stab_grammar::{
     Num, Symbol, TypeTree, key_of, letters_of, numbers, print, print_type, renumber, shape,
 };
 use std::alloc::Global;
+use test_tables::{Calls, Row};
 
 // ---- parsing
 
-fn parse_bytes(alloc: Global, row: &[u8], out: &mut Text) -> Result<(), Odd> {
-    let text = last(bytes(alloc, row)?)?;
-    put_read(alloc, text.bytes(), out)
+fn parse_bytes(row: &mut Row) {
+    let text = row.bytes();
+    put_read(text.bytes(), row);
 }
 
 fn repeat(part: &Text, times: u32, out: &mut Text) -> Result<(), Memory> {
@@ -24,87 +24,92 @@ fn repeat(part: &Text, times: u32, out: &mut Text) -> Result<(), Memory> {
 }
 
 /// Whether a string spells a symbol or only begins one.
-fn begins(alloc: Global, text: &[u8]) -> Result<bool, Odd> {
+fn begins(text: &[u8], row: &mut Row) -> bool {
     let end = Fault::at(41, text.len() as u64);
-    match parsed(alloc, text) {
-        Ok(_) => Ok(true),
-        Err(Refused::At(fault)) => Ok(fault == end),
-        Err(Refused::Memory) => Err(Odd::Memory),
+    match parsed(row.alloc, text) {
+        Ok(_) => true,
+        Err(Refused::At(fault)) => fault == end,
+        Err(Refused::Memory) => {
+            row.lose();
+            false
+        }
     }
 }
 
 /// How many fronts of a string spell a symbol or begin one, before one that does neither.
-fn parse_fronts(alloc: Global, row: &[u8], out: &mut Text) -> Result<(), Odd> {
+fn parse_fronts(row: &mut Row) {
+    let text = row.rest();
     let mut count = 0u64;
-    for cut in 0..row.len() {
-        if !begins(alloc, &row[..cut])? {
+    for cut in 0..text.len() {
+        if !begins(&text[..cut], row) {
             break;
         }
         count = count.wrapping_add(1);
     }
-    Ok(put_number(count, out)?)
+    row.put_number(count);
 }
 
 /// The front of a symbol, how many times, what stands before the inner type so many times, that type, and what stands behind it
 /// so many times.
-fn parse_deep(alloc: Global, row: &[u8], out: &mut Text) -> Result<(), Odd> {
-    let (mut text, row) = bytes(alloc, row)?;
-    let (times, row) = number32(row)?;
-    let (before, row) = bytes(alloc, row)?;
-    let (inner, row) = bytes(alloc, row)?;
-    let behind = last(bytes(alloc, row)?)?;
-    repeat(&before, times, &mut text)?;
-    text.extend(inner.bytes())?;
-    repeat(&behind, times, &mut text)?;
-    put_read(alloc, text.bytes(), out)
+fn parse_deep(row: &mut Row) {
+    let mut text = row.bytes();
+    let times = row.number32();
+    let before = row.bytes();
+    let inner = row.bytes();
+    let behind = row.bytes();
+    let written = repeat(&before, times, &mut text);
+    row.wrote(written);
+    let written = text.extend(inner.bytes());
+    row.wrote(written);
+    let written = repeat(&behind, times, &mut text);
+    row.wrote(written);
+    put_read(text.bytes(), row);
 }
 
 // ---- what a symbol gives
 
 /// Its name, its descriptor and its tree.
-fn put_parts(symbol: &Symbol, out: &mut Text) -> Result<(), Odd> {
-    put_name(&symbol.name, out)?;
-    put_descriptor(symbol.descriptor, out)?;
-    Ok(put_tree(&symbol.tree, out)?)
+fn put_parts(symbol: &Symbol, row: &mut Row) {
+    row.put_name(symbol.name.bytes());
+    put_descriptor(symbol.descriptor, row);
+    put_tree(&symbol.tree, row);
 }
 
-fn put_letters(alloc: Global, symbol: &Symbol, out: &mut Text) -> Result<(), Odd> {
-    let letters = Text::of(alloc, letters_of(symbol.descriptor))?;
-    Ok(put_name(&letters, out)?)
-}
-
-fn put_key(num: &Num, out: &mut Text) -> Result<(), Odd> {
+fn put_key(num: &Num, row: &mut Row) {
     let key = key_of(num);
-    put_number(u64::from(key.file), out)?;
-    Ok(put_number(u64::from(key.number), out)?)
+    row.put_numbers(&[key.file, key.number]);
 }
 
 /// The key of its outermost number.
-fn put_outermost(symbol: &Symbol, out: &mut Text) -> Result<(), Odd> {
+fn put_outermost(symbol: &Symbol, row: &mut Row) {
     match &symbol.tree {
-        TypeTree::Ref(num) => put_key(num, out),
-        TypeTree::Def(num, _) => put_key(num, out),
-        _ => Err(Odd::Row),
+        TypeTree::Ref(num) => put_key(num, row),
+        TypeTree::Def(num, _) => put_key(num, row),
+        _ => row.refuse(),
     }
 }
 
-fn put_shape(alloc: Global, symbol: &Symbol, out: &mut Text) -> Result<(), Odd> {
-    let shaped = shape(alloc, symbol)?;
-    Ok(put_word(shaped.bytes(), out)?)
+fn put_type(symbol: &Symbol, row: &mut Row) {
+    let written = print_type(&symbol.tree, &mut row.answer);
+    row.wrote(written);
+}
+
+fn put_shape(symbol: &Symbol, row: &mut Row) {
+    match shape(row.alloc, symbol) {
+        Ok(shaped) => row.put(shaped.bytes()),
+        Err(_) => row.lose(),
+    }
 }
 
 /// How many files of pairs it has, and each.
-fn put_files(alloc: Global, symbol: &Symbol, out: &mut Text) -> Result<(), Odd> {
-    let files = numbers(alloc, symbol)?;
-    put_number(files.len() as u64, out)?;
-    put_numbers(files.items(), out)
-}
-
-fn put_numbers(numbers: &[u32], out: &mut Text) -> Result<(), Odd> {
-    for number in numbers {
-        put_number(u64::from(*number), out)?;
+fn put_files(symbol: &Symbol, row: &mut Row) {
+    match numbers(row.alloc, symbol) {
+        Ok(files) => {
+            row.put_number(files.len() as u64);
+            row.put_numbers(files.items());
+        }
+        Err(_) => row.lose(),
     }
-    Ok(())
 }
 
 /// The files 10, 11 and 12.
@@ -117,46 +122,53 @@ fn three_files(alloc: Global) -> Result<List<u32>, Memory> {
 }
 
 /// The symbol with 10 for file 0, 11 for file 1 and 12 for file 2.
-fn put_renumbered(alloc: Global, symbol: &Symbol, out: &mut Text) -> Result<(), Odd> {
+fn renumbered(alloc: Global, symbol: &Symbol) -> Result<Symbol, Memory> {
     let files = three_files(alloc)?;
-    let other = renumber(alloc, symbol, &files)?;
-    Ok(print(&other, out)?)
+    renumber(alloc, symbol, &files)
 }
 
-fn put_about(alloc: Global, call: &[u8], symbol: &Symbol, out: &mut Text) -> Result<(), Odd> {
-    match call {
-        b"tree" => put_parts(symbol, out),
-        b"letters_of" => put_letters(alloc, symbol, out),
-        b"print_type" => Ok(print_type(&symbol.tree, out)?),
-        b"key_of" => put_outermost(symbol, out),
-        b"shape" => put_shape(alloc, symbol, out),
-        b"numbers" => put_files(alloc, symbol, out),
-        b"renumber" => put_renumbered(alloc, symbol, out),
-        _ => Err(Odd::Row),
+fn put_renumbered(symbol: &Symbol, row: &mut Row) {
+    match renumbered(row.alloc, symbol) {
+        Ok(other) => {
+            let written = print(&other, &mut row.answer);
+            row.wrote(written);
+        }
+        Err(_) => row.lose(),
     }
 }
 
-fn about(alloc: Global, call: &[u8], row: &[u8], out: &mut Text) -> Result<(), Odd> {
-    let symbol = symbol_of(alloc, row)?;
-    put_about(alloc, call, &symbol, out)
+fn put_about(call: &str, symbol: &Symbol, row: &mut Row) {
+    match call {
+        "tree" => put_parts(symbol, row),
+        "letters_of" => row.put_name(letters_of(symbol.descriptor)),
+        "print_type" => put_type(symbol, row),
+        "key_of" => put_outermost(symbol, row),
+        "shape" => put_shape(symbol, row),
+        "numbers" => put_files(symbol, row),
+        "renumber" => put_renumbered(symbol, row),
+        _ => put_walk(call, &symbol.tree, row),
+    }
+}
+
+/// What the symbol gives that the rest of the row spells.
+fn about(call: &str, row: &mut Row) {
+    match parsed(row.alloc, row.rest()) {
+        Ok(symbol) => put_about(call, &symbol, row),
+        Err(Refused::At(_)) => row.refuse(),
+        Err(Refused::Memory) => row.lose(),
+    }
 }
 
 #[derive(Drop)]
-struct StabGrammar;
+pub struct StabGrammar;
 
 impl Calls for StabGrammar {
-    fn answer(
-        &mut self,
-        alloc: Global,
-        call: &[u8],
-        row: &[u8],
-        out: &mut Text,
-    ) -> Result<(), Odd> {
+    fn answer(&mut self, call: &str, row: &mut Row) {
         match call {
-            b"parse" => parse_bytes(alloc, row, out),
-            b"parse_fronts" => parse_fronts(alloc, row, out),
-            b"parse_deep" => parse_deep(alloc, row, out),
-            _ => about(alloc, call, row, out),
+            "parse" => parse_bytes(row),
+            "parse_fronts" => parse_fronts(row),
+            "parse_deep" => parse_deep(row),
+            _ => about(call, row),
         }
     }
 }

@@ -1,9 +1,6 @@
-use crate::answers::{put_bytes_word, put_number, put_word, put_word8};
-use crate::table::{Calls, Odd, all_hold};
-use crate::words::{bytes, last, number8};
-use st_base::Text;
+use crate::holds::all_hold;
 use stab_codes::{Segment, carries_symbol, code_name, code_of, segment_of};
-use std::alloc::Global;
+use test_tables::{Calls, Row};
 
 fn letter_of(segment: Segment) -> u8 {
     match segment {
@@ -15,71 +12,64 @@ fn letter_of(segment: Segment) -> u8 {
 }
 
 /// The name of a code.
-fn name(row: &[u8], out: &mut Text) -> Result<(), Odd> {
-    let code = last(number8(row)?)?;
-    match code_name(code) {
-        Some(name) => Ok(put_bytes_word(name, out)?),
-        None => Ok(put_word(b"none", out)?),
+fn name(row: &mut Row) {
+    match code_name(row.number8()) {
+        Some(name) => row.put_bytes(name),
+        None => row.put(b"none"),
     }
 }
 
 /// The code of a name.
-fn code(alloc: Global, row: &[u8], out: &mut Text) -> Result<(), Odd> {
-    let name = last(bytes(alloc, row)?)?;
+fn code(row: &mut Row) {
+    let name = row.bytes();
     match code_of(name.bytes()) {
-        Some(code) => Ok(put_word8(code, out)?),
-        None => Ok(put_word(b"none", out)?),
+        Some(code) => row.put_byte(code),
+        None => row.put(b"none"),
     }
 }
 
 /// The segments of the 32 kinds from one on.
-fn segments(row: &[u8], out: &mut Text) -> Result<(), Odd> {
-    let first = last(number8(row)?)?;
+fn segments(row: &mut Row) {
+    let first = row.number8();
     for more in 0..32u8 {
-        out.push(letter_of(segment_of(first.wrapping_add(more))))?;
+        let letter = letter_of(segment_of(first.wrapping_add(more)));
+        let written = row.answer.push(letter);
+        row.wrote(written);
     }
-    Ok(())
 }
 
 /// How many of the 256 kinds have a name.
-fn named(out: &mut Text) -> Result<(), Odd> {
+fn named(row: &mut Row) {
     let mut count = 0u64;
     for kind in 0..=255u8 {
         if code_name(kind).is_some() {
             count = count.wrapping_add(1);
         }
     }
-    Ok(put_number(count, out)?)
+    row.put_number(count);
 }
 
 /// The kinds of the 256 that carry a symbol.
-fn carrying(out: &mut Text) -> Result<(), Odd> {
+fn carrying(row: &mut Row) {
     for kind in 0..=255u8 {
         if carries_symbol(kind) {
-            put_word8(kind, out)?;
+            row.put_byte(kind);
         }
     }
-    Ok(())
 }
 
 #[derive(Drop)]
 struct StabCodes;
 
 impl Calls for StabCodes {
-    fn answer(
-        &mut self,
-        alloc: Global,
-        call: &[u8],
-        row: &[u8],
-        out: &mut Text,
-    ) -> Result<(), Odd> {
+    fn answer(&mut self, call: &str, row: &mut Row) {
         match call {
-            b"code_name" => name(row, out),
-            b"code_of" => code(alloc, row, out),
-            b"segments_of" => segments(row, out),
-            b"named" => named(out),
-            b"carrying" => carrying(out),
-            _ => Err(Odd::Row),
+            "code_name" => name(row),
+            "code_of" => code(row),
+            "segments_of" => segments(row),
+            "named" => named(row),
+            "carrying" => carrying(row),
+            _ => row.refuse(),
         }
     }
 }

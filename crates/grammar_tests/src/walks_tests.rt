@@ -4,10 +4,8 @@ ghost use Rattle.std.specs.List.{IsDistinct};
 ghost use Rattle.stab_grammar.specs.Keys as spec;
 ghost use Rattle.stab_grammar.specs.Surface.{same_key, surface_of};
 
-use crate::answers::{put_number, put_word};
-use crate::stab_strings::symbol_of;
-use crate::table::{Calls, Odd, all_hold};
-use crate::trees::put_name;
+use crate::holds::all_hold;
+use crate::stab_grammar_tests::StabGrammar;
 use st_base::{List, Memory, Text};
 use stab_grammar::{
     DefinitionVisitor, Key, Num, NumberVisitor, TypeTree, key_of, print_placed, print_placed_by,
@@ -15,83 +13,79 @@ use stab_grammar::{
 };
 use std::alloc::Global;
 use std::collections::BTreeMap;
+use test_tables::Row;
 
 // ---- visitors that tell what they visit
-
-fn put_key(key: Key, out: &mut Text) -> Result<(), Memory> {
-    put_number(u64::from(key.file), out)?;
-    put_number(u64::from(key.number), out)
-}
 
 /// Tells each number by its key, up to one of file 9, at which it stops.
 #[derive(Drop)]
 struct Numbers {
-    out: Text,
+    row: Row<'static>,
 }
 
 impl NumberVisitor for Numbers {
-    type Stop = Odd;
+    type Stop = ();
 
     ghost visits = { λ _ _ _ _. Unit {0} };
 
-    fn visit(&mut self, num: Num) -> Result<(), Odd> {
+    fn visit(&mut self, num: Num) -> Result<(), ()> {
         let key = key_of(&num);
-        put_key(key, &mut self.out)?;
-        if key.file == 9 { Err(Odd::Row) } else { Ok(()) }
+        self.row.put_numbers(&[key.file, key.number]);
+        if key.file == 9 { Err(()) } else { Ok(()) }
     }
 }
 
 /// Tells each definition by its key and its body, up to one of file 9, at which it stops.
 #[derive(Drop)]
 struct Bodies {
-    out: Text,
+    row: Row<'static>,
 }
 
 impl<'a> DefinitionVisitor<&'a TypeTree> for Bodies {
-    type Stop = Odd;
+    type Stop = ();
 
     ghost visits = { λ _ _ _ _. Unit {0} };
 
-    fn visit(&mut self, key: Key, body: &'a TypeTree) -> Result<(), Odd> {
-        put_key(key, &mut self.out)?;
-        put_word(b"", &mut self.out)?;
-        print_type(body, &mut self.out)?;
-        if key.file == 9 { Err(Odd::Row) } else { Ok(()) }
+    fn visit(&mut self, key: Key, body: &'a TypeTree) -> Result<(), ()> {
+        self.row.put_numbers(&[key.file, key.number]);
+        self.row.put(b"");
+        let written = print_type(body, &mut self.row.answer);
+        self.row.wrote(written);
+        if key.file == 9 { Err(()) } else { Ok(()) }
     }
 }
 
-/// What was told, and whether the walk stopped.
-fn put_walk(told: &Text, walked: Result<(), Odd>, out: &mut Text) -> Result<(), Odd> {
+/// Whether the walk stopped, and what was told.
+fn put_told(walked: Result<(), ()>, told: &Row, row: &mut Row) {
     match walked {
-        Ok(()) => put_word(b"all", out)?,
-        Err(Odd::Row) => put_word(b"stopped", out)?,
-        Err(Odd::Memory) => return Err(Odd::Memory),
+        Ok(()) => row.put(b"all"),
+        Err(()) => row.put(b"stopped"),
     }
-    Ok(put_name(told, out)?)
+    row.take(told);
 }
 
-fn put_all(alloc: Global, tree: &TypeTree, out: &mut Text) -> Result<(), Odd> {
+fn put_all(tree: &TypeTree, row: &mut Row) {
     let mut numbers = Numbers {
-        out: Text::new(alloc),
+        row: Row::new(row.alloc, b""),
     };
     let walked = visit_numbers(tree, &mut numbers);
-    put_walk(&numbers.out, walked, out)
+    put_told(walked, &numbers.row, row);
 }
 
-fn put_surface(alloc: Global, tree: &TypeTree, out: &mut Text) -> Result<(), Odd> {
+fn put_surface(tree: &TypeTree, row: &mut Row) {
     let mut numbers = Numbers {
-        out: Text::new(alloc),
+        row: Row::new(row.alloc, b""),
     };
     let walked = visit_surface(tree, &mut numbers);
-    put_walk(&numbers.out, walked, out)
+    put_told(walked, &numbers.row, row);
 }
 
-fn put_definitions(alloc: Global, tree: &TypeTree, out: &mut Text) -> Result<(), Odd> {
+fn put_definitions(tree: &TypeTree, row: &mut Row) {
     let mut bodies = Bodies {
-        out: Text::new(alloc),
+        row: Row::new(row.alloc, b""),
     };
     let walked = visit_definitions(tree, &mut bodies);
-    put_walk(&bodies.out, walked, out)
+    put_told(walked, &bodies.row, row);
 }
 
 // ---- places
@@ -103,7 +97,7 @@ struct Listed<'a> {
 }
 
 impl<'a> NumberVisitor for Listed<'a> {
-    ghost use Rattle.library_tests.specs.Listing.{GoesOnAtListed};
+    ghost use Rattle.grammar_tests.specs.Listing.{GoesOnAtListed};
 
     type Stop = ();
 
@@ -140,12 +134,12 @@ fn are_listed(tree: &TypeTree, keys: &List<Key>) -> bool
 }
 
 /// With each number on the surface as its place among three keys.
-fn put_placed(alloc: Global, tree: &TypeTree, out: &mut Text) -> Result<(), Odd> {
+fn put_placed(alloc: Global, tree: &TypeTree, out: &mut Text) -> Result<(), Memory> {
     let keys = three_keys(alloc)?;
     if are_listed(tree, &keys) {
-        Ok(print_placed(tree, &keys, out)?)
+        print_placed(tree, &keys, out)
     } else {
-        Ok(put_word(b"unlisted", out)?)
+        out.extend(b"unlisted")
     }
 }
 
@@ -158,35 +152,26 @@ fn three_places(alloc: Global) -> Result<BTreeMap<Key, usize>, Memory> {
     Ok(places)
 }
 
-fn put_mapped(alloc: Global, tree: &TypeTree, out: &mut Text) -> Result<(), Odd> {
+fn put_mapped(alloc: Global, tree: &TypeTree, out: &mut Text) -> Result<(), Memory> {
     let places = three_places(alloc)?;
-    Ok(print_placed_by(tree, &places, out)?)
+    print_placed_by(tree, &places, out)
 }
 
-fn put_about(alloc: Global, call: &[u8], tree: &TypeTree, out: &mut Text) -> Result<(), Odd> {
+/// What a walk over a type tells.
+pub fn put_walk(call: &str, tree: &TypeTree, row: &mut Row) {
     match call {
-        b"visit_numbers" => put_all(alloc, tree, out),
-        b"visit_surface" => put_surface(alloc, tree, out),
-        b"visit_definitions" => put_definitions(alloc, tree, out),
-        b"print_placed" => put_placed(alloc, tree, out),
-        b"print_placed_by" => put_mapped(alloc, tree, out),
-        _ => Err(Odd::Row),
-    }
-}
-
-#[derive(Drop)]
-struct Walks;
-
-impl Calls for Walks {
-    fn answer(
-        &mut self,
-        alloc: Global,
-        call: &[u8],
-        row: &[u8],
-        out: &mut Text,
-    ) -> Result<(), Odd> {
-        let symbol = symbol_of(alloc, row)?;
-        put_about(alloc, call, &symbol.tree, out)
+        "visit_numbers" => put_all(tree, row),
+        "visit_surface" => put_surface(tree, row),
+        "visit_definitions" => put_definitions(tree, row),
+        "print_placed" => {
+            let written = put_placed(row.alloc, tree, &mut row.answer);
+            row.wrote(written);
+        }
+        "print_placed_by" => {
+            let written = put_mapped(row.alloc, tree, &mut row.answer);
+            row.wrote(written);
+        }
+        _ => row.refuse(),
     }
 }
 
@@ -242,5 +227,5 @@ print_placed_by x:txsa: -> xsa:
 
 #[test]
 fn walks_answer(rt: HostRuntime) {
-    all_hold(&rt, rt.alloc(), &mut Walks, ROWS);
+    all_hold(&rt, rt.alloc(), &mut StabGrammar, ROWS);
 }

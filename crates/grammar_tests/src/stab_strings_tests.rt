@@ -1,9 +1,13 @@
+use crate::holds::none_fails;
 use crate::stab_strings::{reads_all, refuses_all};
 
 // Strings that begin to spell a symbol and go wrong, each with the mark of its first fault; and strings next to them that are right.
 
-/// For each form of a type.
-const WRONG_TYPES: &[u8] = b"
+/// For each form of a type; for structures and unions; for each symbol descriptor, and for names; and for numbers up to 2147483647,
+/// files up to 65535, and numerals of 40 digits.
+const WRONG: &[u8] = b"
+# ---- each form of a type
+
 # `n`
 x:t
    ^41 no number
@@ -463,15 +467,9 @@ x:T(0,1)=s4a;:(0,1),0,1;;
             ^40 a semicolon in a name
 x:T(0,1)=ered:J,;
               ^40 J for a value
-";
 
-#[test]
-fn types_go_wrong(rt: HostRuntime) {
-    refuses_all(&rt, rt.alloc(), WRONG_TYPES);
-}
+# ---- structures and unions
 
-/// For structures and unions.
-const WRONG_FIELDS: &[u8] = b"
 # `s`, the size, fields `name:type,bit,bits;`, `;`, cut off at each place
 x:ts
     ^41 no size
@@ -585,15 +583,9 @@ x:ts4a:7,0,2147483648;;
                     ^40 bits greater than the greatest number
 x:ts4a:7,2147483648,8;;
                   ^40 a bit position greater than the greatest number
-";
 
-#[test]
-fn structures_go_wrong(rt: HostRuntime) {
-    refuses_all(&rt, rt.alloc(), WRONG_FIELDS);
-}
+# ---- symbol descriptors, and names
 
-/// For each symbol descriptor, and for names.
-const WRONG_SYMBOLS: &[u8] = b"
 # No descriptor: the type begins with a digit, `(` or `-`
 x:
   ^41 nothing behind the colon
@@ -891,15 +883,9 @@ a::t7
   ^40 two colons behind a name
 a:b:t7
   ^40 a colon ends the name
-";
 
-#[test]
-fn symbols_go_wrong(rt: HostRuntime) {
-    refuses_all(&rt, rt.alloc(), WRONG_SYMBOLS);
-}
+# ---- numbers, files and numerals past their limits
 
-/// For numbers up to 2147483647, files up to 65535, and numerals of 40 digits.
-const WRONG_LIMITS: &[u8] = b"
 # The greatest number, and the first digit that makes it greater
 x:t21474836470
              ^40 one digit more than the greatest number
@@ -976,8 +962,8 @@ x:tr7;0123456789012345678901234567890123456789J
 ";
 
 #[test]
-fn limits_are_passed(rt: HostRuntime) {
-    refuses_all(&rt, rt.alloc(), WRONG_LIMITS);
+fn strings_go_wrong(rt: HostRuntime) {
+    none_fails(&rt, &refuses_all(rt.alloc(), WRONG));
 }
 
 const RIGHT: &[u8] = b"
@@ -1099,5 +1085,5 @@ node:Tt(1,2)=s16a:*k(1,2),0,32;b:ar@s8;3=r3;-128;0177;;0;J;Bf-7;,32,32;c:u4d:ere
 
 #[test]
 fn strings_at_the_limits_are_read(rt: HostRuntime) {
-    reads_all(&rt, rt.alloc(), RIGHT);
+    none_fails(&rt, &reads_all(rt.alloc(), RIGHT));
 }

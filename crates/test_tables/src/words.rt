@@ -1,0 +1,98 @@
+use crate::row::Odd;
+use hex::FromHexError;
+use st_base::{Memory, Text, put_hex2};
+use std::alloc::Global;
+
+// The parts of a row, and what they spell.
+
+/// A text as a message shows it.
+pub fn shown(text: &[u8]) -> &str {
+    match std::str::from_utf8(text) {
+        Ok(text) => text,
+        Err(_) => "a text that is not UTF-8",
+    }
+}
+
+/// What stands before the first of this byte, and what behind it.
+pub fn cut(text: &[u8], by: u8) -> Option<(&[u8], &[u8])> {
+    for at in 0..text.len() {
+        if text[at] == by {
+            return Some((&text[..at], &text[at + 1..]));
+        }
+    }
+    None
+}
+
+/// What stands before ` -> ` in a row, and what behind it.
+pub fn halves(row: &[u8]) -> Option<(&[u8], &[u8])> {
+    for at in 0..row.len() {
+        if row[at..].starts_with(b" -> ") {
+            return Some((&row[..at], &row[at + 4..]));
+        }
+    }
+    None
+}
+
+/// A text with digits for what stands between quotes, and without `_` and the ends of lines.
+pub fn plain(alloc: Global, text: &[u8]) -> Result<Text, Memory> {
+    let mut out = Text::new(alloc);
+    let mut quoted = false;
+    for b in text {
+        if *b == b'\'' {
+            quoted = !quoted;
+        } else if quoted {
+            put_hex2(*b, &mut out)?;
+        } else if *b != b'_' && *b != b'\n' {
+            out.push(*b)?;
+        }
+    }
+    Ok(out)
+}
+
+/// The bytes that a word spells.
+pub fn bytes_of(alloc: Global, spelled: &[u8]) -> Result<Text, Odd> {
+    match spelled {
+        [] => return Err(Odd::Row),
+        [b'.'] => return Ok(Text::new(alloc)),
+        _ => {}
+    }
+    let digits = plain(alloc, spelled)?;
+    match hex::decode(alloc, digits.bytes()) {
+        Ok(bytes) => Ok(Text::of(alloc, &bytes)?),
+        Err(FromHexError::OutOfMemory) => Err(Odd::Memory),
+        Err(_) => Err(Odd::Row),
+    }
+}
+
+fn number_in(base: u64, digits: &[u8]) -> Option<u64> {
+    let mut value = 0u64;
+    for b in digits {
+        let digit = match b {
+            b'0'..=b'9' => *b - b'0',
+            b'a'..=b'f' => *b - b'a' + 10,
+            _ => 16,
+        };
+        if base <= u64::from(digit) {
+            return None;
+        }
+        value = value.wrapping_mul(base).wrapping_add(u64::from(digit));
+    }
+    Some(value)
+}
+
+/// The number that a word spells.
+pub fn number_of(spelled: &[u8]) -> Option<u64> {
+    match spelled {
+        [] => None,
+        [b'0', b'x', digits @ ..] => number_in(16, digits),
+        digits => number_in(10, digits),
+    }
+}
+
+/// Appends two digits for each byte.
+pub fn put_digits(bytes: &[u8], out: &mut Text) -> Result<(), Memory> {
+    for byte in bytes {
+        put_hex2(*byte, out)?;
+    }
+    Ok(())
+}
