@@ -8,6 +8,12 @@ pub fn none_fails(rt: &impl Abort, told: &Told) {
 }
 
 /// Asserts that each row of a table has the answer that it says.
-pub fn all_hold<C: Calls>(rt: &impl Abort, alloc: Global, calls: &mut C, table: &[u8]) {
-    none_fails(rt, &failed_rows(alloc, calls, table));
+pub fn all_hold<C: Calls>(
+    rt: &impl Abort,
+    alloc: Global,
+    calls: &mut C,
+    lines: &[u8],
+    table: &[u8],
+) {
+    none_fails(rt, &failed_rows(alloc, calls, lines, table));
 }

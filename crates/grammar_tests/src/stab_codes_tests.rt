@@ -1,6 +1,6 @@
 use crate::holds::all_hold;
 use stab_codes::{Segment, carries_symbol, code_name, code_of, segment_of};
-use test_tables::{Calls, Row};
+use test_tables::{Answer, Calls, Given};
 
 fn letter_of(segment: Segment) -> u8 {
     match segment {
@@ -12,48 +12,46 @@ fn letter_of(segment: Segment) -> u8 {
 }
 
 /// The name of a code.
-fn name(row: &mut Row) {
-    match code_name(row.number8()) {
-        Some(name) => row.put_bytes(name),
-        None => row.put(b"none"),
+fn name(code: u8, out: &mut Answer) {
+    match code_name(code) {
+        Some(name) => out.put_bytes(name),
+        None => out.put(b"none"),
     }
 }
 
 /// The code of a name.
-fn code(row: &mut Row) {
-    let name = row.bytes();
-    match code_of(name.bytes()) {
-        Some(code) => row.put_byte(code),
-        None => row.put(b"none"),
+fn code(name: &[u8], out: &mut Answer) {
+    match code_of(name) {
+        Some(code) => out.put_byte(code),
+        None => out.put(b"none"),
     }
 }
 
 /// The segments of the 32 kinds from one on.
-fn segments(row: &mut Row) {
-    let first = row.number8();
+fn segments(first: u8, out: &mut Answer) {
     for more in 0..32u8 {
         let letter = letter_of(segment_of(first.wrapping_add(more)));
-        let written = row.answer.push(letter);
-        row.wrote(written);
+        let written = out.text.push(letter);
+        out.wrote(written);
     }
 }
 
 /// How many of the 256 kinds have a name.
-fn named(row: &mut Row) {
+fn named(out: &mut Answer) {
     let mut count = 0u64;
     for kind in 0..=255u8 {
         if code_name(kind).is_some() {
             count = count.wrapping_add(1);
         }
     }
-    row.put_number(count);
+    out.put_number(count);
 }
 
 /// The kinds of the 256 that carry a symbol.
-fn carrying(row: &mut Row) {
+fn carrying(out: &mut Answer) {
     for kind in 0..=255u8 {
         if carries_symbol(kind) {
-            row.put_byte(kind);
+            out.put_byte(kind);
         }
     }
 }
@@ -62,17 +60,24 @@ fn carrying(row: &mut Row) {
 struct StabCodes;
 
 impl Calls for StabCodes {
-    fn answer(&mut self, call: &str, row: &mut Row) {
+    fn answer(&mut self, call: &str, given: &Given, out: &mut Answer) {
         match call {
-            "code_name" => name(row),
-            "code_of" => code(row),
-            "segments_of" => segments(row),
-            "named" => named(row),
-            "carrying" => carrying(row),
-            _ => row.refuse(),
+            "code_name" => name(given.number8(0), out),
+            "code_of" => code(given.bytes(0), out),
+            "segments_of" => segments(given.number8(0), out),
+            "named" => named(out),
+            _ => carrying(out),
         }
     }
 }
+
+const CALLS: &[u8] = b"
+code_name : number8
+code_of : bytes
+segments_of : number8
+named : nothing
+carrying : nothing
+";
 
 const ROWS: &[u8] = b"
 # each name, by its code
@@ -143,5 +148,5 @@ segments_of 0xe0 -> ----ttddbb----------------------
 
 #[test]
 fn stab_codes_answer(rt: HostRuntime) {
-    all_hold(&rt, rt.alloc(), &mut StabCodes, ROWS);
+    all_hold(&rt, rt.alloc(), &mut StabCodes, CALLS, ROWS);
 }

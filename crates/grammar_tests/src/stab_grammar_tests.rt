@@ -7,108 +7,101 @@ use stab_grammar::{
     Num, Symbol, TypeTree, key_of, letters_of, numbers, print, print_type, renumber, shape,
 };
 use std::alloc::Global;
-use test_tables::{Calls, Row};
+use test_tables::{Answer, Calls, Given};
 
 // ---- parsing
 
-fn parse_bytes(row: &mut Row) {
-    let text = row.bytes();
-    put_read(text.bytes(), row);
-}
-
-fn repeat(part: &Text, times: u32, out: &mut Text) -> Result<(), Memory> {
+fn repeat(part: &[u8], times: u32, out: &mut Text) -> Result<(), Memory> {
     for _ in 0..times {
-        out.extend(part.bytes())?;
+        out.extend(part)?;
     }
     Ok(())
 }
 
 /// Whether a string spells a symbol or only begins one.
-fn begins(text: &[u8], row: &mut Row) -> bool {
+fn begins(text: &[u8], out: &mut Answer) -> bool {
     let end = Fault::at(41, text.len() as u64);
-    match parsed(row.alloc, text) {
+    match parsed(out.alloc, text) {
         Ok(_) => true,
         Err(Refused::At(fault)) => fault == end,
         Err(Refused::Memory) => {
-            row.lose();
+            out.lose();
             false
         }
     }
 }
 
 /// How many fronts of a string spell a symbol or begin one, before one that does neither.
-fn parse_fronts(row: &mut Row) {
-    let text = row.rest();
+fn parse_fronts(text: &[u8], out: &mut Answer) {
     let mut count = 0u64;
     for cut in 0..text.len() {
-        if !begins(&text[..cut], row) {
+        if !begins(&text[..cut], out) {
             break;
         }
         count = count.wrapping_add(1);
     }
-    row.put_number(count);
+    out.put_number(count);
 }
 
 /// The front of a symbol, how many times, what stands before the inner type so many times, that type, and what stands behind it
 /// so many times.
-fn parse_deep(row: &mut Row) {
-    let mut text = row.bytes();
-    let times = row.number32();
-    let before = row.bytes();
-    let inner = row.bytes();
-    let behind = row.bytes();
-    let written = repeat(&before, times, &mut text);
-    row.wrote(written);
-    let written = text.extend(inner.bytes());
-    row.wrote(written);
-    let written = repeat(&behind, times, &mut text);
-    row.wrote(written);
-    put_read(text.bytes(), row);
+fn deep_text(given: &Given, out: &mut Text) -> Result<(), Memory> {
+    out.extend(given.bytes(0))?;
+    repeat(given.bytes(1), given.number32(0), out)?;
+    out.extend(given.bytes(2))?;
+    repeat(given.bytes(3), given.number32(0), out)
+}
+
+fn parse_deep(given: &Given, out: &mut Answer) {
+    let mut text = Text::new(out.alloc);
+    let written = deep_text(given, &mut text);
+    out.wrote(written);
+    put_read(text.bytes(), out);
 }
 
 // ---- what a symbol gives
 
 /// Its name, its descriptor and its tree.
-fn put_parts(symbol: &Symbol, row: &mut Row) {
-    row.put_name(symbol.name.bytes());
-    put_descriptor(symbol.descriptor, row);
-    put_tree(&symbol.tree, row);
+fn put_parts(symbol: &Symbol, out: &mut Answer) {
+    out.put_name(symbol.name.bytes());
+    put_descriptor(symbol.descriptor, out);
+    put_tree(&symbol.tree, out);
 }
 
-fn put_key(num: &Num, row: &mut Row) {
+fn put_key(num: &Num, out: &mut Answer) {
     let key = key_of(num);
-    row.put_numbers(&[key.file, key.number]);
+    out.put_numbers(&[key.file, key.number]);
 }
 
 /// The key of its outermost number.
-fn put_outermost(symbol: &Symbol, row: &mut Row) {
+fn put_outermost(symbol: &Symbol, out: &mut Answer) {
     match &symbol.tree {
-        TypeTree::Ref(num) => put_key(num, row),
-        TypeTree::Def(num, _) => put_key(num, row),
-        _ => row.refuse(),
+        TypeTree::Ref(num) => put_key(num, out),
+        TypeTree::Def(num, _) => put_key(num, out),
+        _ => out.refuse(),
     }
 }
 
-fn put_type(symbol: &Symbol, row: &mut Row) {
-    let written = print_type(&symbol.tree, &mut row.answer);
-    row.wrote(written);
+fn put_type(symbol: &Symbol, out: &mut Answer) {
+    let written = print_type(&symbol.tree, &mut out.text);
+    out.wrote(written);
 }
 
-fn put_shape(symbol: &Symbol, row: &mut Row) {
-    match shape(row.alloc, symbol) {
-        Ok(shaped) => row.put(shaped.bytes()),
-        Err(_) => row.lose(),
+fn put_shape(symbol: &Symbol, out: &mut Answer) {
+    match shape(out.alloc, symbol) {
+        Ok(shaped) => out.put(shaped.bytes()),
+        Err(_) => out.lose(),
     }
 }
 
 /// How many files of pairs it has, and each.
-fn put_files(symbol: &Symbol, row: &mut Row) {
-    match numbers(row.alloc, symbol) {
+fn put_files(symbol: &Symbol, out: &mut Answer) {
+    match numbers(out.alloc, symbol) {
         Ok(files) => {
-            row.put_number(files.len() as u64);
-            row.put_numbers(files.items());
+            out.put_number(files.len() as u64);
+            out.put_numbers(files.items());
         }
-        Err(_) => row.lose(),
+        Err(_) => out.lose(),
     }
 }
 
@@ -127,35 +120,34 @@ fn renumbered(alloc: Global, symbol: &Symbol) -> Result<Symbol, Memory> {
     renumber(alloc, symbol, &files)
 }
 
-fn put_renumbered(symbol: &Symbol, row: &mut Row) {
-    match renumbered(row.alloc, symbol) {
+fn put_renumbered(symbol: &Symbol, out: &mut Answer) {
+    match renumbered(out.alloc, symbol) {
         Ok(other) => {
-            let written = print(&other, &mut row.answer);
-            row.wrote(written);
+            let written = print(&other, &mut out.text);
+            out.wrote(written);
         }
-        Err(_) => row.lose(),
+        Err(_) => out.lose(),
     }
 }
 
-fn put_about(call: &str, symbol: &Symbol, row: &mut Row) {
+fn put_about(call: &str, symbol: &Symbol, out: &mut Answer) {
     match call {
-        "tree" => put_parts(symbol, row),
-        "letters_of" => row.put_name(letters_of(symbol.descriptor)),
-        "print_type" => put_type(symbol, row),
-        "key_of" => put_outermost(symbol, row),
-        "shape" => put_shape(symbol, row),
-        "numbers" => put_files(symbol, row),
-        "renumber" => put_renumbered(symbol, row),
-        _ => put_walk(call, &symbol.tree, row),
+        "tree" => put_parts(symbol, out),
+        "letters_of" => out.put_name(letters_of(symbol.descriptor)),
+        "print_type" => put_type(symbol, out),
+        "key_of" => put_outermost(symbol, out),
+        "shape" => put_shape(symbol, out),
+        "numbers" => put_files(symbol, out),
+        "renumber" => put_renumbered(symbol, out),
+        _ => put_walk(call, &symbol.tree, out),
     }
 }
 
-/// What the symbol gives that the rest of the row spells.
-fn about(call: &str, row: &mut Row) {
-    match parsed(row.alloc, row.rest()) {
-        Ok(symbol) => put_about(call, &symbol, row),
-        Err(Refused::At(_)) => row.refuse(),
-        Err(Refused::Memory) => row.lose(),
+/// What the symbol gives that a string spells.
+fn about(call: &str, text: &[u8], out: &mut Answer) {
+    match parsed(out.alloc, text) {
+        Ok(symbol) => put_about(call, &symbol, out),
+        Err(_) => out.refuse(),
     }
 }
 
@@ -163,15 +155,33 @@ fn about(call: &str, row: &mut Row) {
 pub struct StabGrammar;
 
 impl Calls for StabGrammar {
-    fn answer(&mut self, call: &str, row: &mut Row) {
+    fn answer(&mut self, call: &str, given: &Given, out: &mut Answer) {
         match call {
-            "parse" => parse_bytes(row),
-            "parse_fronts" => parse_fronts(row),
-            "parse_deep" => parse_deep(row),
-            _ => about(call, row),
+            "parse" => put_read(given.bytes(0), out),
+            "parse_fronts" => parse_fronts(given.rest, out),
+            "parse_deep" => parse_deep(given, out),
+            _ => about(call, given.rest, out),
         }
     }
 }
+
+pub const CALLS: &[u8] = b"
+parse : bytes
+parse_fronts : rest
+parse_deep : bytes number32 bytes bytes bytes
+tree : rest
+letters_of : rest
+print_type : rest
+key_of : rest
+shape : rest
+numbers : rest
+renumber : rest
+visit_numbers : rest
+visit_surface : rest
+visit_definitions : rest
+print_placed : rest
+print_placed_by : rest
+";
 
 const PARSED: &[u8] = b"
 # no string
@@ -288,7 +298,7 @@ parse_deep 'x:t' 99 '*' 'R1;8;0;' . -> same
 
 #[test]
 fn strings_are_parsed(rt: HostRuntime) {
-    all_hold(&rt, rt.alloc(), &mut StabGrammar, PARSED);
+    all_hold(&rt, rt.alloc(), &mut StabGrammar, CALLS, PARSED);
 }
 
 const TREES: &[u8] = b"
@@ -363,7 +373,7 @@ key_of x:t(65535,2147483647) -> 65535 2147483647
 
 #[test]
 fn strings_spell_trees(rt: HostRuntime) {
-    all_hold(&rt, rt.alloc(), &mut StabGrammar, TREES);
+    all_hold(&rt, rt.alloc(), &mut StabGrammar, CALLS, TREES);
 }
 
 const FILES: &[u8] = b"
@@ -395,5 +405,5 @@ renumber x:t-16; -> x:t-16;
 
 #[test]
 fn files_of_pairs_are_told(rt: HostRuntime) {
-    all_hold(&rt, rt.alloc(), &mut StabGrammar, FILES);
+    all_hold(&rt, rt.alloc(), &mut StabGrammar, CALLS, FILES);
 }

@@ -5,7 +5,7 @@ use stab_grammar::{Symbol, parse, print};
 use std::alloc::Global;
 use std::marker::Brand;
 use std::sync::ledger::{Blank, Ledger};
-use test_tables::{Row, Told};
+use test_tables::{Answer, Told, cut, number_of};
 
 // Tables of stab strings, a line for each. Under a string that spells no symbol stands the mark `^` under the byte of its fault,
 // or under the place behind its last byte where it ends too early, with the number of the fault and the case:
@@ -30,44 +30,44 @@ pub fn parsed(alloc: Global, text: &[u8]) -> Result<Symbol, Refused> {
 }
 
 /// Writes `same` where a symbol is printed as its string stood, and else how it is printed.
-fn put_again(symbol: &Symbol, text: &[u8], row: &mut Row) {
-    let mut printed = Text::new(row.alloc);
+fn put_again(symbol: &Symbol, text: &[u8], out: &mut Answer) {
+    let mut printed = Text::new(out.alloc);
     let written = print(symbol, &mut printed);
-    row.wrote(written);
+    out.wrote(written);
     if printed.bytes() == text {
-        row.put(b"same");
+        out.put(b"same");
     } else {
-        row.put(printed.bytes());
+        out.put(printed.bytes());
     }
 }
 
 /// Writes `same` where the string is read, and printed as it stood, and else its fault.
-pub fn put_read(text: &[u8], row: &mut Row) {
-    match parsed(row.alloc, text) {
-        Err(refused) => row.put_refused(&refused),
-        Ok(symbol) => put_again(&symbol, text, row),
+pub fn put_read(text: &[u8], out: &mut Answer) {
+    match parsed(out.alloc, text) {
+        Err(refused) => out.put_refused(&refused),
+        Ok(symbol) => put_again(&symbol, text, out),
     }
 }
 
-fn answers(told: &mut Told, text: &[u8], said: Row) {
-    let mut row = Row::new(said.alloc, b"");
-    put_read(text, &mut row);
+fn answers(told: &mut Told, text: &[u8], said: Answer) {
+    let mut out = Answer::new(said.alloc);
+    put_read(text, &mut out);
     match said.ended() {
-        Ok(said) => told.compare(b"", text, row.ended(), said.bytes()),
+        Ok(said) => told.compare(b"", text, out.ended(), said.bytes()),
         Err(_) => told.lose(),
     }
 }
 
 /// Tells a string that is not read, or not printed as it stood.
 pub fn reads(told: &mut Told, alloc: Global, text: &[u8]) {
-    let mut said = Row::new(alloc, b"");
+    let mut said = Answer::new(alloc);
     said.put(b"same");
     answers(told, text, said);
 }
 
 /// Tells a string that is not refused with this fault.
 pub fn refuses(told: &mut Told, alloc: Global, text: &[u8], number: u16, place: usize) {
-    let mut said = Row::new(alloc, b"");
+    let mut said = Answer::new(alloc);
     said.put_fault(&Fault::at(number, place as u64));
     answers(told, text, said);
 }
@@ -97,18 +97,25 @@ fn mark_in(line: &[u8]) -> Option<(usize, &[u8])> {
     None
 }
 
+/// The number of the fault that stands behind a mark, before the case.
+fn fault_in(behind: &[u8]) -> Option<u16> {
+    let spelled = match cut(behind, b' ') {
+        Some((spelled, _)) => spelled,
+        None => behind,
+    };
+    match number_of(0xffff, spelled) {
+        Ok(number) => Some(number as u16),
+        Err(_) => None,
+    }
+}
+
 /// Tells a string that is not refused with the fault that is marked in the line under it.
 fn refuses_marked(told: &mut Told, alloc: Global, text: &[u8], line: &[u8]) {
     match mark_in(line) {
-        Some((place, behind)) => {
-            let mut mark = Row::new(alloc, behind);
-            let number = mark.number16();
-            let _ = mark.rest();
-            match mark.ended() {
-                Ok(_) => refuses(told, alloc, text, number, place),
-                Err(_) => told.failed(b"", text, b"no number behind the mark"),
-            }
-        }
+        Some((place, behind)) => match fault_in(behind) {
+            Some(number) => refuses(told, alloc, text, number, place),
+            None => told.failed(b"", text, b"no number behind the mark"),
+        },
         None => told.failed(b"", text, b"no mark"),
     }
 }

@@ -5,7 +5,7 @@ ghost use Rattle.stab_grammar.specs.Keys as spec;
 ghost use Rattle.stab_grammar.specs.Surface.{same_key, surface_of};
 
 use crate::holds::all_hold;
-use crate::stab_grammar_tests::StabGrammar;
+use crate::stab_grammar_tests::{CALLS, StabGrammar};
 use st_base::{List, Memory, Text};
 use stab_grammar::{
     DefinitionVisitor, Key, Num, NumberVisitor, TypeTree, key_of, print_placed, print_placed_by,
@@ -13,14 +13,14 @@ use stab_grammar::{
 };
 use std::alloc::Global;
 use std::collections::BTreeMap;
-use test_tables::Row;
+use test_tables::Answer;
 
 // ---- visitors that tell what they visit
 
 /// Tells each number by its key, up to one of file 9, at which it stops.
 #[derive(Drop)]
 struct Numbers {
-    row: Row<'static>,
+    out: Answer,
 }
 
 impl NumberVisitor for Numbers {
@@ -30,7 +30,7 @@ impl NumberVisitor for Numbers {
 
     fn visit(&mut self, num: Num) -> Result<(), ()> {
         let key = key_of(&num);
-        self.row.put_numbers(&[key.file, key.number]);
+        self.out.put_numbers(&[key.file, key.number]);
         if key.file == 9 { Err(()) } else { Ok(()) }
     }
 }
@@ -38,7 +38,7 @@ impl NumberVisitor for Numbers {
 /// Tells each definition by its key and its body, up to one of file 9, at which it stops.
 #[derive(Drop)]
 struct Bodies {
-    row: Row<'static>,
+    out: Answer,
 }
 
 impl<'a> DefinitionVisitor<&'a TypeTree> for Bodies {
@@ -47,45 +47,45 @@ impl<'a> DefinitionVisitor<&'a TypeTree> for Bodies {
     ghost visits = { λ _ _ _ _. Unit {0} };
 
     fn visit(&mut self, key: Key, body: &'a TypeTree) -> Result<(), ()> {
-        self.row.put_numbers(&[key.file, key.number]);
-        self.row.put(b"");
-        let written = print_type(body, &mut self.row.answer);
-        self.row.wrote(written);
+        self.out.put_numbers(&[key.file, key.number]);
+        self.out.put(b"");
+        let written = print_type(body, &mut self.out.text);
+        self.out.wrote(written);
         if key.file == 9 { Err(()) } else { Ok(()) }
     }
 }
 
 /// Whether the walk stopped, and what was told.
-fn put_told(walked: Result<(), ()>, told: &Row, row: &mut Row) {
+fn put_told(walked: Result<(), ()>, told: &Answer, out: &mut Answer) {
     match walked {
-        Ok(()) => row.put(b"all"),
-        Err(()) => row.put(b"stopped"),
+        Ok(()) => out.put(b"all"),
+        Err(()) => out.put(b"stopped"),
     }
-    row.take(told);
+    out.take(told);
 }
 
-fn put_all(tree: &TypeTree, row: &mut Row) {
+fn put_all(tree: &TypeTree, out: &mut Answer) {
     let mut numbers = Numbers {
-        row: Row::new(row.alloc, b""),
+        out: Answer::new(out.alloc),
     };
     let walked = visit_numbers(tree, &mut numbers);
-    put_told(walked, &numbers.row, row);
+    put_told(walked, &numbers.out, out);
 }
 
-fn put_surface(tree: &TypeTree, row: &mut Row) {
+fn put_surface(tree: &TypeTree, out: &mut Answer) {
     let mut numbers = Numbers {
-        row: Row::new(row.alloc, b""),
+        out: Answer::new(out.alloc),
     };
     let walked = visit_surface(tree, &mut numbers);
-    put_told(walked, &numbers.row, row);
+    put_told(walked, &numbers.out, out);
 }
 
-fn put_definitions(tree: &TypeTree, row: &mut Row) {
+fn put_definitions(tree: &TypeTree, out: &mut Answer) {
     let mut bodies = Bodies {
-        row: Row::new(row.alloc, b""),
+        out: Answer::new(out.alloc),
     };
     let walked = visit_definitions(tree, &mut bodies);
-    put_told(walked, &bodies.row, row);
+    put_told(walked, &bodies.out, out);
 }
 
 // ---- places
@@ -158,20 +158,20 @@ fn put_mapped(alloc: Global, tree: &TypeTree, out: &mut Text) -> Result<(), Memo
 }
 
 /// What a walk over a type tells.
-pub fn put_walk(call: &str, tree: &TypeTree, row: &mut Row) {
+pub fn put_walk(call: &str, tree: &TypeTree, out: &mut Answer) {
     match call {
-        "visit_numbers" => put_all(tree, row),
-        "visit_surface" => put_surface(tree, row),
-        "visit_definitions" => put_definitions(tree, row),
+        "visit_numbers" => put_all(tree, out),
+        "visit_surface" => put_surface(tree, out),
+        "visit_definitions" => put_definitions(tree, out),
         "print_placed" => {
-            let written = put_placed(row.alloc, tree, &mut row.answer);
-            row.wrote(written);
+            let written = put_placed(out.alloc, tree, &mut out.text);
+            out.wrote(written);
         }
         "print_placed_by" => {
-            let written = put_mapped(row.alloc, tree, &mut row.answer);
-            row.wrote(written);
+            let written = put_mapped(out.alloc, tree, &mut out.text);
+            out.wrote(written);
         }
-        _ => row.refuse(),
+        _ => out.refuse(),
     }
 }
 
@@ -227,5 +227,5 @@ print_placed_by x:txsa: -> xsa:
 
 #[test]
 fn walks_answer(rt: HostRuntime) {
-    all_hold(&rt, rt.alloc(), &mut StabGrammar, ROWS);
+    all_hold(&rt, rt.alloc(), &mut StabGrammar, CALLS, ROWS);
 }

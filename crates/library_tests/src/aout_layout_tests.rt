@@ -2,7 +2,7 @@ use crate::changes::changed;
 use crate::holds::all_hold;
 use aout_layout::{Header, header_fits, read_header, write_header};
 use st_base::{Order, Text};
-use test_tables::{Calls, Row};
+use test_tables::{Answer, Calls, Given};
 
 /// Sizes of text, data and bss of which each byte is another, 24 bytes of entries, text at 0x1000, 16 bytes of text relocations
 /// and 8 of data relocations.
@@ -31,13 +31,13 @@ const BIG: &[u8] = b"
 ";
 
 /// Writes the order, and the fields in their order, each as its bytes with the most significant one first.
-fn put_header(header: &Header, row: &mut Row) {
+fn put_header(header: &Header, out: &mut Answer) {
     match header.order {
-        Order::Little => row.put(b"little"),
-        Order::Big => row.put(b"big"),
+        Order::Little => out.put(b"little"),
+        Order::Big => out.put(b"big"),
     }
-    row.put_word16(header.machine);
-    row.put_words32(&[
+    out.put_word16(header.machine);
+    out.put_words32(&[
         header.text,
         header.data_part,
         header.bss,
@@ -48,45 +48,38 @@ fn put_header(header: &Header, row: &mut Row) {
     ]);
 }
 
-fn header_bytes(row: &mut Row) -> Text {
-    match row.order() {
-        Order::Little => changed(row, Order::Little, LITTLE),
-        Order::Big => changed(row, Order::Big, BIG),
-    }
-}
-
 /// An order, and changes of the bytes that have it.
-fn read(row: &mut Row) {
-    let bytes = header_bytes(row);
+fn read(given: &Given, out: &mut Answer) {
+    let bytes: Text = match given.order {
+        Order::Little => changed(Order::Little, given.rest, LITTLE, out),
+        Order::Big => changed(Order::Big, given.rest, BIG, out),
+    };
     match bytes.bytes().split_first_chunk::<32>() {
         Some((record, _)) => match read_header(record) {
-            Ok(header) => put_header(&header, row),
-            Err(fault) => row.put_fault(&fault),
+            Ok(header) => put_header(&header, out),
+            Err(fault) => out.put_fault(&fault),
         },
-        None => row.refuse(),
+        None => out.refuse(),
     }
 }
 
-fn header_in(row: &mut Row) -> Header {
-    Header {
-        order: row.order(),
-        machine: row.number16(),
-        text: row.number32(),
-        data_part: row.number32(),
-        bss: row.number32(),
-        symbols: row.number32(),
-        entry: row.number32(),
-        text_relocs: row.number32(),
-        data_relocs: row.number32(),
-    }
-}
-
-fn write(row: &mut Row) {
-    let header = header_in(row);
+/// The fields of a header in their order.
+fn write(given: &Given, out: &mut Answer) {
+    let header = Header {
+        order: given.order,
+        machine: given.number16(0),
+        text: given.number32(1),
+        data_part: given.number32(2),
+        bss: given.number32(3),
+        symbols: given.number32(4),
+        entry: given.number32(5),
+        text_relocs: given.number32(6),
+        data_relocs: given.number32(7),
+    };
     if header_fits(&header) {
-        row.put_bytes(&write_header(&header));
+        out.put_bytes(&write_header(&header));
     } else {
-        row.put(b"unfit");
+        out.put(b"unfit");
     }
 }
 
@@ -94,14 +87,18 @@ fn write(row: &mut Row) {
 struct AoutLayout;
 
 impl Calls for AoutLayout {
-    fn answer(&mut self, call: &str, row: &mut Row) {
+    fn answer(&mut self, call: &str, given: &Given, out: &mut Answer) {
         match call {
-            "read_header" => read(row),
-            "write_header" => write(row),
-            _ => row.refuse(),
+            "read_header" => read(given, out),
+            _ => write(given, out),
         }
     }
 }
+
+const CALLS: &[u8] = b"
+read_header : order rest
+write_header : order number16 number32 number32 number32 number32 number32 number32 number32
+";
 
 // In `read_header` 16:25 sets the word at 16 to 25.
 const ROWS: &[u8] = b"
@@ -156,5 +153,5 @@ write_header big 0x64 1 2 3 0 0xfffffff9 0 0 -> 00640107000000010000000200000003
 
 #[test]
 fn aout_layout_answers(rt: HostRuntime) {
-    all_hold(&rt, rt.alloc(), &mut AoutLayout, ROWS);
+    all_hold(&rt, rt.alloc(), &mut AoutLayout, CALLS, ROWS);
 }

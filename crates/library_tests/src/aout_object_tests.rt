@@ -12,7 +12,7 @@ use nlist_codec::Named;
 use reloc::Reloc;
 use st_base::{Fault, List, Memory, Order, Refused, Text};
 use std::alloc::Global;
-use test_tables::{Calls, Odd, Row, bytes_of};
+use test_tables::{Answer, Calls, Given, Odd, bytes_of};
 
 // A file that has all parts, its numbers with the least significant byte first: the header; text at 32, data at 36; a word at 0
 // that moves with text, at 40, and a word at 8, entry 3, pcrel, at 48; an N_SO at 56, and a definition in text at 68; the string
@@ -58,61 +58,61 @@ const BIG: &[u8] = b"
 '_f'00
 ";
 
-/// The file that has all parts in an order, with the changes that are left in the row.
-fn file_in(order: Order, row: &mut Row) -> Text {
+/// The file that has all parts in an order, with changes.
+fn file_in(order: Order, changes: &[u8], out: &mut Answer) -> Text {
     match order {
-        Order::Little => changed(row, order, LITTLE),
-        Order::Big => changed(row, order, BIG),
+        Order::Little => changed(order, changes, LITTLE, out),
+        Order::Big => changed(order, changes, BIG, out),
     }
 }
 
 // ---- what decoding answers
 
 /// `same` where an object is encoded again as its file stood.
-fn put_again(object: &Object, file: &[u8], row: &mut Row) {
-    match encode(row.alloc, object) {
-        Ok(again) if again.bytes() == file => row.put(b"same"),
-        Ok(_) => row.put(b"other"),
-        Err(_) => row.lose(),
+fn put_again(object: &Object, file: &[u8], out: &mut Answer) {
+    match encode(out.alloc, object) {
+        Ok(again) => {
+            if again.bytes() == file {
+                out.put(b"same");
+            } else {
+                out.put(b"other");
+            }
+        }
+        Err(_) => out.lose(),
     }
 }
 
-fn put_decoded(file: &[u8], row: &mut Row) {
-    match decode(row.alloc, file) {
-        Err(refused) => row.put_refused(&refused),
-        Ok(object) => put_again(&object, file, row),
+fn put_decoded(file: &[u8], out: &mut Answer) {
+    match decode(out.alloc, file) {
+        Err(refused) => out.put_refused(&refused),
+        Ok(object) => put_again(&object, file, out),
     }
+}
+
+fn decoded(order: Order, given: &Given, alloc: Global) -> Answer {
+    let mut out = Answer::new(alloc);
+    let file = file_in(order, given.rest, &mut out);
+    put_decoded(file.bytes(), &mut out);
+    out
 }
 
 /// The answer for both orders, or two that differ.
-fn decode_both(row: &mut Row) {
-    let changes = row.rest();
-    let mut little = Row::new(row.alloc, changes);
-    let file = file_in(Order::Little, &mut little);
-    put_decoded(file.bytes(), &mut little);
-    let mut big = Row::new(row.alloc, changes);
-    let file = file_in(Order::Big, &mut big);
-    put_decoded(file.bytes(), &mut big);
-    row.take(&little);
-    if little.answer.bytes() != big.answer.bytes() {
-        row.put(b"or");
-        row.take(&big);
+fn decode_both(given: &Given, out: &mut Answer) {
+    let little = decoded(Order::Little, given, out.alloc);
+    let big = decoded(Order::Big, given, out.alloc);
+    out.take(&little);
+    if little.text.bytes() != big.text.bytes() {
+        out.put(b"or");
+        out.take(&big);
     }
 }
 
-/// A file by itself.
-fn decode_bytes(row: &mut Row) {
-    let file = row.bytes();
-    put_decoded(file.bytes(), row);
-}
-
 /// The file with a byte more.
-fn decode_longer(row: &mut Row) {
-    let order = row.order();
-    let mut file = file_in(order, row);
+fn decode_longer(given: &Given, out: &mut Answer) {
+    let mut file = file_in(given.order, b"", out);
     let written = file.push(0);
-    row.wrote(written);
-    put_decoded(file.bytes(), row);
+    out.wrote(written);
+    put_decoded(file.bytes(), out);
 }
 
 fn is_truncated(alloc: Global, front: &[u8]) -> bool {
@@ -123,85 +123,88 @@ fn is_truncated(alloc: Global, front: &[u8]) -> bool {
     }
 }
 
-/// How many fronts of the file are told to be truncated at their ends.
-fn decode_fronts(row: &mut Row) {
-    let order = row.order();
-    let file = file_in(order, row);
-    let all = file.bytes();
+/// How many fronts of a file are told to be truncated at their ends.
+fn put_fronts(file: &[u8], out: &mut Answer) {
     let mut count = 0u64;
-    for cut in 0..all.len() {
-        if is_truncated(row.alloc, &all[..cut]) {
+    for cut in 0..file.len() {
+        if is_truncated(out.alloc, &file[..cut]) {
             count = count.wrapping_add(1);
         }
     }
-    row.put_number(count);
+    out.put_number(count);
 }
 
 // ---- what an object gives
 
 /// The machine word, the size of bss, the entry word, the end of text, and the bytes of text and of data.
-fn put_parts(object: &Object, row: &mut Row) {
+fn put_parts(object: &Object, out: &mut Answer) {
     let parts = object.parts();
-    row.put_word16(parts.machine);
-    row.put_words32(&[parts.bss, parts.entry, object.text_end()]);
-    row.put_bytes(parts.text.bytes());
-    row.put_bytes(parts.data_part.bytes());
+    out.put_word16(parts.machine);
+    out.put_words32(&[parts.bss, parts.entry, object.text_end()]);
+    out.put_bytes(parts.text.bytes());
+    out.put_bytes(parts.data_part.bytes());
 }
 
-fn put_each_reloc(relocs: &[Reloc], row: &mut Row) {
+fn put_each_reloc(relocs: &[Reloc], out: &mut Answer) {
     for reloc in relocs {
-        put_reloc(reloc, row);
+        put_reloc(reloc, out);
     }
 }
 
 /// The relocations of text, `and`, and those of data.
-fn put_relocs(object: &Object, row: &mut Row) {
-    put_each_reloc(object.parts().text_relocs.items(), row);
-    row.put(b"and");
-    put_each_reloc(object.parts().data_relocs.items(), row);
+fn put_relocs(parts: &Parts, out: &mut Answer) {
+    put_each_reloc(parts.text_relocs.items(), out);
+    out.put(b"and");
+    put_each_reloc(parts.data_relocs.items(), out);
 }
 
 /// The entries, `in`, and the string table.
-fn put_entries(object: &Object, row: &mut Row) {
-    put_each_entry(object.entries().items(), row);
-    row.put(b"in");
-    row.put_bytes(object.strings().bytes());
+fn put_entries(object: &Object, out: &mut Answer) {
+    put_each_entry(object.entries().items(), out);
+    out.put(b"in");
+    out.put_bytes(object.strings().bytes());
 }
 
-fn put_each_named(named: &[Named], row: &mut Row) {
+fn put_each_named(named: &[Named], out: &mut Answer) {
     for entry in named {
-        row.put_byte(entry.kind);
-        row.put_byte(entry.other);
-        row.put_word16(entry.desc);
-        row.put_word32(entry.value);
-        row.put_bytes(entry.name.bytes());
+        out.put_byte(entry.kind);
+        out.put_byte(entry.other);
+        out.put_word16(entry.desc);
+        out.put_word32(entry.value);
+        out.put_bytes(entry.name.bytes());
     }
 }
 
-fn put_names(object: &Object, row: &mut Row) {
-    match object.named(row.alloc) {
-        Ok(named) => put_each_named(named.items(), row),
-        Err(_) => row.lose(),
+fn put_names(object: &Object, out: &mut Answer) {
+    match object.named(out.alloc) {
+        Ok(named) => put_each_named(named.items(), out),
+        Err(_) => out.lose(),
     }
 }
 
-fn put_part(call: &str, object: &Object, row: &mut Row) {
+fn put_part(call: &str, object: &Object, out: &mut Answer) {
     match call {
-        "parts" => put_parts(object, row),
-        "relocs" => put_relocs(object, row),
-        "entries" => put_entries(object, row),
-        "named" => put_names(object, row),
-        _ => row.refuse(),
+        "parts" => put_parts(object, out),
+        "relocs" => put_relocs(object.parts(), out),
+        "entries" => put_entries(object, out),
+        _ => put_names(object, out),
     }
 }
 
 /// What the object of the file that has all parts gives.
-fn part_of(call: &str, row: &mut Row) {
-    let order = row.order();
-    let file = file_in(order, row);
-    match decode(row.alloc, file.bytes()) {
-        Ok(object) => put_part(call, &object, row),
-        Err(_) => row.refuse(),
+fn put_part_of(call: &str, file: &[u8], out: &mut Answer) {
+    match decode(out.alloc, file) {
+        Ok(object) => put_part(call, &object, out),
+        Err(_) => out.refuse(),
+    }
+}
+
+/// A call with the file that has all parts, with changes.
+fn about_file(call: &str, given: &Given, out: &mut Answer) {
+    let file = file_in(given.order, given.rest, out);
+    match call {
+        "decode_fronts" => put_fronts(file.bytes(), out),
+        _ => put_part_of(call, file.bytes(), out),
     }
 }
 
@@ -273,34 +276,34 @@ fn named_in(alloc: Global, row: &[u8]) -> Result<List<Named>, Odd>
     Ok(named)
 }
 
-fn put_file_of(object: &Object, row: &mut Row) {
-    match encode(row.alloc, object) {
-        Ok(file) => row.put_bytes(file.bytes()),
-        Err(_) => row.lose(),
+fn put_file_of(object: &Object, out: &mut Answer) {
+    match encode(out.alloc, object) {
+        Ok(file) => out.put_bytes(file.bytes()),
+        Err(_) => out.lose(),
     }
 }
 
 /// The file of the object that is made.
-fn put_made(parts: Parts, named: &List<Named>, row: &mut Row)
+fn put_made(parts: Parts, named: &List<Named>, out: &mut Answer)
     requires machine { parts.machine ≡ 0x64 }
     requires text_relocs { parts.text_relocs ≡ [] }
     requires data_relocs { parts.data_relocs ≡ [] }
     requires names { All HasWholeName named.now }
 {
-    match Object::make(row.alloc, parts, named) {
-        Ok(object) => put_file_of(&object, row),
-        Err(refused) => row.put_refused(&refused),
+    match Object::make(out.alloc, parts, named) {
+        Ok(object) => put_file_of(&object, out),
+        Err(refused) => out.put_refused(&refused),
     }
 }
 
 /// An order, an entry word, text, and entries with their names.
-fn make(row: &mut Row) {
-    let order = row.order();
-    let entry = row.number32();
-    let text = row.bytes();
-    match named_in(row.alloc, row.rest()) {
-        Ok(named) => put_made(parts_with(row.alloc, order, entry, text), &named, row),
-        Err(odd) => row.fail(odd),
+fn make(given: &Given, text: Text, out: &mut Answer) {
+    match named_in(out.alloc, given.rest) {
+        Ok(named) => {
+            let parts = parts_with(out.alloc, given.order, given.number32(0), text);
+            put_made(parts, &named, out);
+        }
+        Err(odd) => out.fail(odd),
     }
 }
 
@@ -310,24 +313,25 @@ fn zeros(alloc: Global, count: usize) -> Result<Text, Memory> {
     Text::of(alloc, &zeros)
 }
 
-fn put_fault_of_making(parts: Parts, row: &mut Row)
-    requires machine { parts.machine ≡ 0x64 }
-    requires text_relocs { parts.text_relocs ≡ [] }
-    requires data_relocs { parts.data_relocs ≡ [] }
-{
-    match Object::make(row.alloc, parts, &List::new(row.alloc)) {
-        Ok(_) => row.put(b"made"),
-        Err(refused) => row.put_refused(&refused),
+/// Whether an object without entries is made, of an entry word and text.
+fn make_long(given: &Given, text: Text, out: &mut Answer) {
+    let parts = parts_with(out.alloc, Order::Big, given.number32(0), text);
+    match Object::make(out.alloc, parts, &List::new(out.alloc)) {
+        Ok(_) => out.put(b"made"),
+        Err(refused) => out.put_refused(&refused),
     }
 }
 
-/// An entry word, and how many zero bytes of text.
-fn make_long(row: &mut Row) {
-    let entry = row.number32();
-    let size = row.number32();
-    match zeros(row.alloc, size as usize) {
-        Ok(text) => put_fault_of_making(parts_with(row.alloc, Order::Big, entry, text), row),
-        Err(_) => row.lose(),
+/// A call that makes an object of text: these bytes, or so many zero bytes.
+fn about_text(call: &str, given: &Given, out: &mut Answer) {
+    let text = match call {
+        "make" => Text::of(out.alloc, given.bytes(0)),
+        _ => zeros(out.alloc, given.number32(1) as usize),
+    };
+    match (text, call) {
+        (Ok(text), "make") => make(given, text, out),
+        (Ok(text), _) => make_long(given, text, out),
+        (Err(_), _) => out.lose(),
     }
 }
 
@@ -335,18 +339,30 @@ fn make_long(row: &mut Row) {
 struct AoutObject;
 
 impl Calls for AoutObject {
-    fn answer(&mut self, call: &str, row: &mut Row) {
+    fn answer(&mut self, call: &str, given: &Given, out: &mut Answer) {
         match call {
-            "decode" => decode_both(row),
-            "decode_bytes" => decode_bytes(row),
-            "decode_longer" => decode_longer(row),
-            "decode_fronts" => decode_fronts(row),
-            "make" => make(row),
-            "make_long" => make_long(row),
-            _ => part_of(call, row),
+            "decode" => decode_both(given, out),
+            "decode_bytes" => put_decoded(given.bytes(0), out),
+            "decode_longer" => decode_longer(given, out),
+            "make" => about_text(call, given, out),
+            "make_long" => about_text(call, given, out),
+            _ => about_file(call, given, out),
         }
     }
 }
+
+const CALLS: &[u8] = b"
+decode : rest
+decode_bytes : bytes
+decode_longer : order
+decode_fronts : order
+parts : order rest
+relocs : order rest
+entries : order rest
+named : order rest
+make : order number32 bytes rest
+make_long : number32 number32
+";
 
 const ROWS: &[u8] = b"
 # a file with all parts, in both orders
@@ -482,7 +498,7 @@ make big 0 . 1f'x' -> fault 30 0
 
 #[test]
 fn aout_object_answers(rt: HostRuntime) {
-    all_hold(&rt, rt.alloc(), &mut AoutObject, ROWS);
+    all_hold(&rt, rt.alloc(), &mut AoutObject, CALLS, ROWS);
 }
 
 const LONG: &[u8] = b"
@@ -495,5 +511,5 @@ make_long 0xffffffff 134217693 -> fault 94 4294967295
 
 #[test]
 fn a_file_has_at_most_134_217_728_bytes(rt: HostRuntime) {
-    all_hold(&rt, rt.alloc(), &mut AoutObject, LONG);
+    all_hold(&rt, rt.alloc(), &mut AoutObject, CALLS, LONG);
 }

@@ -1,56 +1,52 @@
 use crate::holds::all_hold;
 use nlist_codec::{Entry, read_entries, read_entry, write_entry};
 use st_base::Order;
-use test_tables::{Calls, Row};
+use test_tables::{Answer, Calls, Given};
 
 /// Writes the fields of each entry in their order, each as its bytes with the most significant one first.
-pub fn put_each_entry(entries: &[Entry], row: &mut Row) {
+pub fn put_each_entry(entries: &[Entry], out: &mut Answer) {
     for entry in entries {
-        row.put_word32(entry.strx);
-        row.put_byte(entry.kind);
-        row.put_byte(entry.other);
-        row.put_word16(entry.desc);
-        row.put_word32(entry.value);
+        out.put_word32(entry.strx);
+        out.put_byte(entry.kind);
+        out.put_byte(entry.other);
+        out.put_word16(entry.desc);
+        out.put_word32(entry.value);
     }
 }
 
-fn read(row: &mut Row) {
-    let order = row.order();
-    let spelled = row.bytes();
-    match (spelled.bytes().split_first_chunk::<12>(), order) {
-        (Some((record, _)), Order::Little) => put_each_entry(&[read_entry::<false>(record)], row),
-        (Some((record, _)), Order::Big) => put_each_entry(&[read_entry::<true>(record)], row),
-        (None, _) => row.refuse(),
+fn read(given: &Given, out: &mut Answer) {
+    match (given.bytes(0).split_first_chunk::<12>(), given.order) {
+        (Some((record, _)), Order::Little) => put_each_entry(&[read_entry::<false>(record)], out),
+        (Some((record, _)), Order::Big) => put_each_entry(&[read_entry::<true>(record)], out),
+        (None, _) => out.refuse(),
     }
 }
 
-fn write(row: &mut Row) {
-    let order = row.order();
+fn write(given: &Given, out: &mut Answer) {
     let entry = Entry {
-        strx: row.number32(),
-        kind: row.number8(),
-        other: row.number8(),
-        desc: row.number16(),
-        value: row.number32(),
+        strx: given.number32(0),
+        kind: given.number8(1),
+        other: given.number8(2),
+        desc: given.number16(3),
+        value: given.number32(4),
     };
-    match order {
-        Order::Little => row.put_bytes(&write_entry::<false>(&entry)),
-        Order::Big => row.put_bytes(&write_entry::<true>(&entry)),
+    match given.order {
+        Order::Little => out.put_bytes(&write_entry::<false>(&entry)),
+        Order::Big => out.put_bytes(&write_entry::<true>(&entry)),
     }
 }
 
-fn read_all(row: &mut Row) {
-    let order = row.order();
-    let spelled = row.bytes();
-    if spelled.bytes().len() % 12 != 0 {
-        return row.refuse();
+fn read_all(given: &Given, out: &mut Answer) {
+    let bytes = given.bytes(0);
+    if bytes.len() % 12 != 0 {
+        return out.refuse();
     }
-    match read_entries(row.alloc, order, spelled.bytes()) {
+    match read_entries(out.alloc, given.order, bytes) {
         Ok(entries) => {
-            row.put_number(entries.len() as u64);
-            put_each_entry(entries.items(), row);
+            out.put_number(entries.len() as u64);
+            put_each_entry(entries.items(), out);
         }
-        Err(_) => row.lose(),
+        Err(_) => out.lose(),
     }
 }
 
@@ -58,15 +54,20 @@ fn read_all(row: &mut Row) {
 struct NlistCodec;
 
 impl Calls for NlistCodec {
-    fn answer(&mut self, call: &str, row: &mut Row) {
+    fn answer(&mut self, call: &str, given: &Given, out: &mut Answer) {
         match call {
-            "read_entry" => read(row),
-            "write_entry" => write(row),
-            "read_entries" => read_all(row),
-            _ => row.refuse(),
+            "read_entry" => read(given, out),
+            "write_entry" => write(given, out),
+            _ => read_all(given, out),
         }
     }
 }
+
+const CALLS: &[u8] = b"
+read_entry : order bytes
+write_entry : order number32 number8 number8 number16 number32
+read_entries : order bytes
+";
 
 const ROWS: &[u8] = b"
 # strx, kind, other, desc, value
@@ -90,5 +91,5 @@ read_entries big . -> 0
 
 #[test]
 fn nlist_codec_answers(rt: HostRuntime) {
-    all_hold(&rt, rt.alloc(), &mut NlistCodec, ROWS);
+    all_hold(&rt, rt.alloc(), &mut NlistCodec, CALLS, ROWS);
 }

@@ -9,7 +9,7 @@ use std::fs;
 use std::fs::File;
 use std::process::Abort;
 use std::test::Fail;
-use test_tables::{Calls, Row};
+use test_tables::{Answer, Calls, Given};
 
 /// Files and a sink, on which the rows of a table are called one after another.
 #[derive(Drop)]
@@ -18,31 +18,29 @@ struct Outside<F: Files + Drop, S: Sink + Drop> {
     sink: S,
 }
 
-fn put_loaded(loaded: Loaded, row: &mut Row) {
+fn put_loaded(loaded: Loaded, out: &mut Answer) {
     match loaded {
-        Loaded::Bytes(text) => row.put_bytes(text.bytes()),
-        Loaded::Absent => row.put(b"absent"),
-        Loaded::Long => row.put(b"long"),
-        Loaded::Failed => row.put(b"failed"),
-        Loaded::Memory => row.lose(),
+        Loaded::Bytes(text) => out.put_bytes(text.bytes()),
+        Loaded::Absent => out.put(b"absent"),
+        Loaded::Long => out.put(b"long"),
+        Loaded::Failed => out.put(b"failed"),
+        Loaded::Memory => out.lose(),
     }
 }
 
-/// A name, and the most bytes.
-fn load<F: Files>(files: &mut F, row: &mut Row) {
-    let name = row.bytes();
-    let most = row.number();
-    put_loaded(files.load(row.alloc, name, most), row);
+fn put_stored(stored: Stored, out: &mut Answer) {
+    match stored {
+        Stored::Done => out.put(b"done"),
+        Stored::Failed => out.put(b"failed"),
+        Stored::Memory => out.lose(),
+    }
 }
 
-/// A name, and its bytes.
-fn store<F: Files>(files: &mut F, row: &mut Row) {
-    let name = row.bytes();
-    let content = row.bytes();
-    match files.store(row.alloc, &name, &content) {
-        Stored::Done => row.put(b"done"),
-        Stored::Failed => row.put(b"failed"),
-        Stored::Memory => row.lose(),
+fn put_put(put: Put, out: &mut Answer) {
+    match put {
+        Put::Done => out.put(b"done"),
+        Put::Failed => out.put(b"failed"),
+        Put::Memory => out.lose(),
     }
 }
 
@@ -64,42 +62,41 @@ fn is_kept<F: Files>(files: &mut F, alloc: Global, name: Text, bytes: &Text) -> 
     }
 }
 
-/// The name of a long file.
-fn keep<F: Files>(files: &mut F, row: &mut Row) {
-    let name = row.bytes();
-    match long_text(row.alloc) {
-        Ok(bytes) => {
-            if is_kept(files, row.alloc, name, &bytes) {
-                row.put(b"kept");
-            } else {
-                row.put(b"lost");
+/// A call of files, with the name of a file.
+fn call_files<F: Files>(files: &mut F, call: &str, name: Text, given: &Given, out: &mut Answer) {
+    match call {
+        "load" => put_loaded(files.load(out.alloc, name, given.number(0)), out),
+        "store" => match Text::of(out.alloc, given.bytes(1)) {
+            Ok(content) => put_stored(files.store(out.alloc, &name, &content), out),
+            Err(_) => out.lose(),
+        },
+        _ => match long_text(out.alloc) {
+            Ok(bytes) => {
+                let kept = is_kept(files, out.alloc, name, &bytes);
+                out.put(if kept { b"kept" } else { b"lost" });
             }
-        }
-        Err(_) => row.lose(),
-    }
-}
-
-/// What the sink takes.
-fn put<S: Sink>(sink: &mut S, row: &mut Row) {
-    let piece = row.bytes();
-    match sink.put(piece.bytes()) {
-        Put::Done => row.put(b"done"),
-        Put::Failed => row.put(b"failed"),
-        Put::Memory => row.lose(),
+            Err(_) => out.lose(),
+        },
     }
 }
 
 impl<F: Files + Drop, S: Sink + Drop> Calls for Outside<F, S> {
-    fn answer(&mut self, call: &str, row: &mut Row) {
-        match call {
-            "load" => load(&mut self.files, row),
-            "store" => store(&mut self.files, row),
-            "keep" => keep(&mut self.files, row),
-            "put" => put(&mut self.sink, row),
-            _ => row.refuse(),
+    fn answer(&mut self, call: &str, given: &Given, out: &mut Answer) {
+        match (call, Text::of(out.alloc, given.bytes(0))) {
+            ("put", _) => put_put(self.sink.put(given.bytes(0)), out),
+            (_, Ok(name)) => call_files(&mut self.files, call, name, given, out),
+            (_, Err(_)) => out.lose(),
         }
     }
 }
+
+/// A name, and the most bytes; a name, and its bytes; the name of a long file; and what a sink is given.
+const CALLS: &[u8] = b"
+load : bytes number64
+store : bytes bytes
+keep : bytes
+put : bytes
+";
 
 /// Asserts what a sink was given.
 fn is_written(rt: &impl Abort, written: &[u8], said: &[u8]) {
@@ -152,7 +149,7 @@ fn files_and_a_sink_in_memory_answer(rt: HostRuntime) -> Result<(), Fail> {
         files: memory_files(alloc)?,
         sink: memory_sink(alloc)?,
     };
-    all_hold(&rt, alloc, &mut calls, IN_MEMORY);
+    all_hold(&rt, alloc, &mut calls, CALLS, IN_MEMORY);
     is_written(&rt, calls.sink.written(), b"one three");
     Ok(())
 }
@@ -184,7 +181,7 @@ fn sure_files_and_a_sure_sink_answer(rt: HostRuntime) -> Result<(), Fail> {
         files: sure_files(alloc)?,
         sink: SureSink::new(alloc),
     };
-    all_hold(&rt, alloc, &mut calls, SURE);
+    all_hold(&rt, alloc, &mut calls, CALLS, SURE);
     is_written(&rt, calls.sink.written(), b"stab\n\x00\xff");
     Ok(())
 }
@@ -219,7 +216,7 @@ fn files_and_a_sink_on_disk_answer(rt: HostRuntime) -> Result<(), Fail> {
         files: DiskFiles::new(rt.clone()?),
         sink: StreamSink::new(File::create(&rt, "library_tests_printed.tmp")?),
     };
-    all_hold(&rt, rt.alloc(), &mut calls, ON_DISK);
+    all_hold(&rt, rt.alloc(), &mut calls, CALLS, ON_DISK);
     for name in [
         "library_tests_a.tmp",
         "library_tests_long.tmp",

@@ -3,158 +3,149 @@ use readers::{
     Refusal, Stop, TextFault, Unread, bad, byte_at, digits_at, is_digit, name_at, number_and,
     number_at, text_of, told, whole_number,
 };
-use test_tables::{Calls, Row, shown};
+use test_tables::{Answer, Calls, Given, shown};
 
 // ---- answers
 
-fn put_at(name: &[u8], place: usize, row: &mut Row) {
-    row.put(name);
-    row.put_number(place as u64);
+fn put_at(name: &[u8], place: usize, out: &mut Answer) {
+    out.put(name);
+    out.put_number(place as u64);
 }
 
-fn put_refusal(refusal: Refusal, row: &mut Row) {
+fn put_refusal(refusal: Refusal, out: &mut Answer) {
     match refusal {
-        Refusal::Memory => row.lose(),
-        Refusal::At(Stop::End) => row.put(b"end"),
-        Refusal::At(Stop::Bad(left)) => put_at(b"bad", left, row),
-        Refusal::At(Stop::Deep(left)) => put_at(b"deep", left, row),
+        Refusal::Memory => out.lose(),
+        Refusal::At(Stop::End) => out.put(b"end"),
+        Refusal::At(Stop::Bad(left)) => put_at(b"bad", left, out),
+        Refusal::At(Stop::Deep(left)) => put_at(b"deep", left, out),
     }
 }
 
 /// The number that was read, and what stands behind it.
-fn put_numbered(read: Result<(u32, &[u8]), Refusal>, row: &mut Row) {
+fn put_numbered(read: Result<(u32, &[u8]), Refusal>, out: &mut Answer) {
     match read {
         Ok((number, rest)) => {
-            row.put_number(u64::from(number));
-            row.put_bytes(rest);
+            out.put_number(u64::from(number));
+            out.put_bytes(rest);
         }
-        Err(refusal) => put_refusal(refusal, row),
+        Err(refusal) => put_refusal(refusal, out),
     }
 }
 
 /// The bytes that were read, and what stands behind them.
-fn put_parted(read: Result<(&[u8], &[u8]), Refusal>, row: &mut Row) {
+fn put_parted(read: Result<(&[u8], &[u8]), Refusal>, out: &mut Answer) {
     match read {
         Ok((front, rest)) => {
-            row.put_bytes(front);
-            row.put_bytes(rest);
+            out.put_bytes(front);
+            out.put_bytes(rest);
         }
-        Err(refusal) => put_refusal(refusal, row),
+        Err(refusal) => put_refusal(refusal, out),
     }
 }
 
-fn put_unread(unread: Unread, row: &mut Row) {
+fn put_unread(unread: Unread, out: &mut Answer) {
     match unread {
-        Unread::Memory => row.put(b"memory"),
-        Unread::At(TextFault::Byte(place)) => put_at(b"byte", place, row),
-        Unread::At(TextFault::End(place)) => put_at(b"end", place, row),
-        Unread::At(TextFault::Deep(place)) => put_at(b"deep", place, row),
+        Unread::Memory => out.put(b"memory"),
+        Unread::At(TextFault::Byte(place)) => put_at(b"byte", place, out),
+        Unread::At(TextFault::End(place)) => put_at(b"end", place, out),
+        Unread::At(TextFault::Deep(place)) => put_at(b"deep", place, out),
     }
 }
 
 // ---- calls
 
 /// The greatest number, at least 9, and the text.
-fn limited(call: &str, row: &mut Row) {
-    let limit = row.number32();
-    let text = row.bytes();
+fn limited(call: &str, given: &Given, out: &mut Answer) {
+    let limit = given.number32(0);
+    let text = given.bytes(0);
     if limit < 9 {
-        return row.refuse();
+        return out.refuse();
     }
     match call {
-        "whole_number" => match whole_number(limit, text.bytes()) {
-            Some(number) => row.put_number(u64::from(number)),
-            None => row.put(b"none"),
+        "whole_number" => match whole_number(limit, text) {
+            Some(number) => out.put_number(u64::from(number)),
+            None => out.put(b"none"),
         },
-        "number_at" => put_numbered(number_at(limit, text.bytes()), row),
-        _ => {
-            let end = row.number8();
-            put_numbered(number_and(limit, end, text.bytes()), row);
-        }
+        "number_at" => put_numbered(number_at(limit, text), out),
+        _ => put_numbered(number_and(limit, given.number8(1), text), out),
     }
 }
 
-/// The byte at the end, the byte that is barred, and the text.
-fn name(row: &mut Row) {
-    let end = row.number8();
-    let barred = row.number8();
-    let text = row.bytes();
-    put_parted(name_at(end, barred, text.bytes()), row);
-}
-
-fn digits(row: &mut Row) {
-    let more = row.number8();
-    let text = row.bytes();
-    put_parted(digits_at(usize::from(more), text.bytes()), row);
-}
-
-fn byte(row: &mut Row) {
-    let wanted = row.number8();
-    let text = row.bytes();
-    match byte_at(wanted, text.bytes()) {
-        Ok(((), rest)) => row.put_bytes(rest),
-        Err(refusal) => put_refusal(refusal, row),
+fn byte(wanted: u8, text: &[u8], out: &mut Answer) {
+    match byte_at(wanted, text) {
+        Ok(((), rest)) => out.put_bytes(rest),
+        Err(refusal) => put_refusal(refusal, out),
     }
 }
 
-fn digit(row: &mut Row) {
-    if is_digit(row.number8()) {
-        row.put(b"yes");
+fn digit(b: u8, out: &mut Answer) {
+    if is_digit(b) {
+        out.put(b"yes");
     } else {
-        row.put(b"no");
+        out.put(b"no");
     }
 }
 
-fn text(row: &mut Row) {
-    let bytes = row.bytes();
-    match text_of(row.alloc, bytes.bytes()) {
-        Ok(text) => row.put_bytes(text.bytes()),
-        Err(refusal) => put_refusal(refusal, row),
+fn text(given: &Given, out: &mut Answer) {
+    match text_of(out.alloc, given.bytes(0)) {
+        Ok(text) => out.put_bytes(text.bytes()),
+        Err(refusal) => put_refusal(refusal, out),
     }
-}
-
-fn wrong(row: &mut Row) {
-    let text = row.bytes();
-    put_refusal(bad(text.bytes()), row);
 }
 
 /// The length of a text, why reading stops, and how many bytes are left there, not more than the length.
-fn place(row: &mut Row) {
-    let all = usize::from(row.number8());
-    let why = shown(row.word());
-    let left = usize::from(row.number8());
+fn place(given: &Given, out: &mut Answer) {
+    let all = usize::from(given.number8(0));
+    let left = usize::from(given.number8(1));
     if all < left {
-        return row.refuse();
+        return out.refuse();
     }
-    match why {
-        "bad" => put_unread(told(all, Refusal::At(Stop::Bad(left))), row),
-        "deep" => put_unread(told(all, Refusal::At(Stop::Deep(left))), row),
-        "end" => put_unread(told(all, Refusal::At(Stop::End)), row),
-        "memory" => put_unread(told(all, Refusal::Memory), row),
-        _ => row.refuse(),
-    }
+    let unread = match shown(given.word) {
+        "bad" => told(all, Refusal::At(Stop::Bad(left))),
+        "deep" => told(all, Refusal::At(Stop::Deep(left))),
+        "end" => told(all, Refusal::At(Stop::End)),
+        "memory" => told(all, Refusal::Memory),
+        _ => return out.refuse(),
+    };
+    put_unread(unread, out);
 }
 
 #[derive(Drop)]
 struct Readers;
 
 impl Calls for Readers {
-    fn answer(&mut self, call: &str, row: &mut Row) {
+    fn answer(&mut self, call: &str, given: &Given, out: &mut Answer) {
         match call {
-            "whole_number" => limited(call, row),
-            "number_at" => limited(call, row),
-            "number_and" => limited(call, row),
-            "name_at" => name(row),
-            "digits_at" => digits(row),
-            "byte_at" => byte(row),
-            "is_digit" => digit(row),
-            "text_of" => text(row),
-            "bad" => wrong(row),
-            "told" => place(row),
-            _ => row.refuse(),
+            "name_at" => {
+                let (end, barred) = (given.number8(0), given.number8(1));
+                put_parted(name_at(end, barred, given.bytes(0)), out);
+            }
+            "digits_at" => {
+                let more = usize::from(given.number8(0));
+                put_parted(digits_at(more, given.bytes(0)), out);
+            }
+            "byte_at" => byte(given.number8(0), given.bytes(0), out),
+            "is_digit" => digit(given.number8(0), out),
+            "text_of" => text(given, out),
+            "bad" => put_refusal(bad(given.bytes(0)), out),
+            "told" => place(given, out),
+            _ => limited(call, given, out),
         }
     }
 }
+
+const CALLS: &[u8] = b"
+whole_number : number32 bytes
+number_at : number32 bytes
+number_and : number32 bytes number8
+name_at : number8 number8 bytes
+digits_at : number8 bytes
+byte_at : number8 bytes
+is_digit : number8
+text_of : bytes
+bad : bytes
+told : number8 word number8
+";
 
 const ROWS: &[u8] = b"
 # the greatest number, and a text
@@ -253,5 +244,5 @@ told 7 memory 0 -> memory
 
 #[test]
 fn readers_answer(rt: HostRuntime) {
-    all_hold(&rt, rt.alloc(), &mut Readers, ROWS);
+    all_hold(&rt, rt.alloc(), &mut Readers, CALLS, ROWS);
 }

@@ -1,55 +1,45 @@
 use crate::holds::all_hold;
 use reloc::{Reloc, apply, read_reloc, write_reloc};
-use st_base::Order;
-use test_tables::{Calls, Row, shown};
+use st_base::{Order, Text};
+use test_tables::{Answer, Calls, Given, shown};
 
 /// Writes the address, the symbol, the bytes of the field, and the flags that are set.
-pub fn put_reloc(reloc: &Reloc, row: &mut Row) {
-    row.put_numbers(&[reloc.address, reloc.symbol, u32::from(reloc.length)]);
+pub fn put_reloc(reloc: &Reloc, out: &mut Answer) {
+    out.put_numbers(&[reloc.address, reloc.symbol, u32::from(reloc.length)]);
     if reloc.pcrel {
-        row.put(b"pcrel");
+        out.put(b"pcrel");
     }
     if reloc.external {
-        row.put(b"external");
+        out.put(b"external");
     }
 }
 
-fn read(row: &mut Row) {
-    let order = row.order();
-    let spelled = row.bytes();
-    let Some((record, _)) = spelled.bytes().split_first_chunk::<8>() else {
-        return row.refuse();
+fn read(given: &Given, out: &mut Answer) {
+    let Some((record, _)) = given.bytes(0).split_first_chunk::<8>() else {
+        return out.refuse();
     };
-    let read = match order {
+    let read = match given.order {
         Order::Little => read_reloc::<false>(record),
         Order::Big => read_reloc::<true>(record),
     };
     match read {
-        Ok(reloc) => put_reloc(&reloc, row),
-        Err(fault) => row.put_fault(&fault),
+        Ok(reloc) => put_reloc(&reloc, out),
+        Err(fault) => out.put_fault(&fault),
     }
 }
 
-/// Whether `pcrel`, and whether `external` stands among the flags that are left.
-fn flags_in(row: &mut Row) -> (bool, bool) {
-    match shown(row.rest()) {
+/// The relocation with these numbers, and the flags that the row names.
+fn reloc_of(address: u32, symbol: u32, length: u8, given: &Given, out: &mut Answer) -> Reloc {
+    let (pcrel, external) = match shown(given.rest) {
         "" => (false, false),
         "pcrel" => (true, false),
         "external" => (false, true),
         "pcrel external" => (true, true),
         _ => {
-            row.refuse();
+            out.refuse();
             (false, false)
         }
-    }
-}
-
-/// The address, the symbol, the length, and which of the two flags are set.
-fn reloc_in(row: &mut Row) -> Reloc {
-    let address = row.number32();
-    let symbol = row.number32();
-    let length = row.number8();
-    let (pcrel, external) = flags_in(row);
+    };
     Reloc {
         address,
         symbol,
@@ -59,50 +49,70 @@ fn reloc_in(row: &mut Row) -> Reloc {
     }
 }
 
-fn write(row: &mut Row) {
-    let order = row.order();
-    let reloc = reloc_in(row);
+fn write(given: &Given, out: &mut Answer) {
+    let reloc = reloc_of(
+        given.number32(0),
+        given.number32(1),
+        given.number8(2),
+        given,
+        out,
+    );
     let symbol = reloc.symbol;
     let is_segment = symbol == 2 || symbol == 4 || symbol == 6 || symbol == 8;
     if 2 < reloc.length || 0xff_ffff < symbol || !(reloc.external || is_segment) {
-        return row.refuse();
+        return out.refuse();
     }
-    match order {
-        Order::Little => row.put_bytes(&write_reloc::<false>(&reloc)),
-        Order::Big => row.put_bytes(&write_reloc::<true>(&reloc)),
+    match given.order {
+        Order::Little => out.put_bytes(&write_reloc::<false>(&reloc)),
+        Order::Big => out.put_bytes(&write_reloc::<true>(&reloc)),
     }
 }
 
-/// An order, a segment, an amount, and a relocation: the answer, and the segment afterwards.
-fn add(row: &mut Row) {
-    let order = row.order();
-    let mut segment = row.bytes();
-    let amount = row.number32();
-    let reloc = reloc_in(row);
+/// Adds to a field of a segment, whose relocation has a length of at most 2.
+fn add_to(segment: &mut Text, reloc: &Reloc, amount: u32, given: &Given, out: &mut Answer) {
     if 2 < reloc.length {
-        return row.refuse();
+        return out.refuse();
     }
-    let applied = match order {
-        Order::Little => apply::<false>(segment.bytes_mut(), &reloc, amount),
-        Order::Big => apply::<true>(segment.bytes_mut(), &reloc, amount),
-    };
-    row.put_checked(applied);
-    row.put_bytes(segment.bytes());
+    out.put_checked(match given.order {
+        Order::Little => apply::<false>(segment.bytes_mut(), reloc, amount),
+        Order::Big => apply::<true>(segment.bytes_mut(), reloc, amount),
+    });
+    out.put_bytes(segment.bytes());
+}
+
+/// An order, a segment, an amount, and a relocation: the answer, and the segment afterwards.
+fn add(given: &Given, out: &mut Answer) {
+    let reloc = reloc_of(
+        given.number32(1),
+        given.number32(2),
+        given.number8(3),
+        given,
+        out,
+    );
+    match Text::of(out.alloc, given.bytes(0)) {
+        Ok(mut segment) => add_to(&mut segment, &reloc, given.number32(0), given, out),
+        Err(_) => out.lose(),
+    }
 }
 
 #[derive(Drop)]
 struct Relocs;
 
 impl Calls for Relocs {
-    fn answer(&mut self, call: &str, row: &mut Row) {
+    fn answer(&mut self, call: &str, given: &Given, out: &mut Answer) {
         match call {
-            "read_reloc" => read(row),
-            "write_reloc" => write(row),
-            "apply" => add(row),
-            _ => row.refuse(),
+            "read_reloc" => read(given, out),
+            "write_reloc" => write(given, out),
+            _ => add(given, out),
         }
     }
 }
+
+const CALLS: &[u8] = b"
+read_reloc : order bytes
+write_reloc : order number32 number32 number8 rest
+apply : order bytes number32 number32 number32 number8 rest
+";
 
 const ROWS: &[u8] = b"
 # address, symbol, length, flags
@@ -176,5 +186,5 @@ apply big 000000 1 1 4 1 -> ok 000001
 
 #[test]
 fn reloc_answers(rt: HostRuntime) {
-    all_hold(&rt, rt.alloc(), &mut Relocs, ROWS);
+    all_hold(&rt, rt.alloc(), &mut Relocs, CALLS, ROWS);
 }

@@ -5,19 +5,16 @@ use st_base::{
 };
 use std::alloc::Global;
 use std::marker::Brand;
-use test_tables::{Calls, Row, shown};
+use test_tables::{Answer, Calls, Given};
 
-// ---- the shown form
+// ---- printed forms
 
-fn shown_form(row: &mut Row) {
-    let text = row.bytes();
-    let mut out = Text::new(row.alloc);
-    let written = show(&mut out, text.bytes());
-    row.wrote(written);
-    row.put_bytes(out.bytes());
+fn shown_form(given: &Given, out: &mut Answer) {
+    let mut text = Text::new(out.alloc);
+    let written = show(&mut text, given.bytes(0));
+    out.wrote(written);
+    out.put_bytes(text.bytes());
 }
-
-// ---- numerals
 
 // The number in decimal, the lowest byte in two digits, the lowest two in four, and all in eight.
 fn put_numerals(number: u32, out: &mut Text) -> Result<(), Memory> {
@@ -30,25 +27,24 @@ fn put_numerals(number: u32, out: &mut Text) -> Result<(), Memory> {
     put_hex8(number, out)
 }
 
-fn numerals(row: &mut Row) {
-    let mut out = Text::new(row.alloc);
-    let written = put_numerals(row.number32(), &mut out);
-    row.wrote(written);
-    row.put_bytes(out.bytes());
+fn numerals(given: &Given, out: &mut Answer) {
+    let mut text = Text::new(out.alloc);
+    let written = put_numerals(given.number32(0), &mut text);
+    out.wrote(written);
+    out.put_bytes(text.bytes());
 }
 
 // ---- fields
 
 /// A place, which is at most 8, how many bytes, and a number: twelve bytes 0xee with the number set, and the number that is read there.
-fn field_in<const BIG: bool>(row: &mut Row) {
-    let at = usize::from(row.number8());
-    let width = row.number8();
-    let value = row.number32();
+fn field<const BIG: bool>(given: &Given, out: &mut Answer) {
+    let at = usize::from(given.number8(0));
+    let value = given.number32(2);
     if 8 < at {
-        return row.refuse();
+        return out.refuse();
     }
     let mut record = [0xee; 12];
-    let read = match width {
+    let read = match given.number8(1) {
         1 => {
             Layout::<BIG, 12>::put_u8(&mut record, at, (value % 0x100) as u8);
             u32::from(Layout::<BIG, 12>::get_u8(&record, at))
@@ -66,73 +62,66 @@ fn field_in<const BIG: bool>(row: &mut Row) {
             Layout::<BIG, 12>::get_u32(&record, at)
         }
     };
-    row.put_bytes(&record);
-    row.put_word32(read);
+    out.put_bytes(&record);
+    out.put_word32(read);
 }
 
-fn field(row: &mut Row) {
-    match row.order() {
-        Order::Little => field_in::<false>(row),
-        Order::Big => field_in::<true>(row),
+fn first(given: &Given, out: &mut Answer) {
+    match first_word(given.order, given.bytes(0)) {
+        Some(first) => out.put_word32(first),
+        None => out.put(b"none"),
     }
-}
-
-fn first(row: &mut Row) {
-    let order = row.order();
-    let front = row.bytes();
-    match first_word(order, front.bytes()) {
-        Some(first) => row.put_word32(first),
-        None => row.put(b"none"),
-    }
-}
-
-fn set_first(row: &mut Row) {
-    let order = row.order();
-    let mut front = row.bytes();
-    let first = row.number32();
-    if front.bytes().len() < 4 {
-        return row.refuse();
-    }
-    set_first_word(order, front.bytes_mut(), first);
-    row.put_bytes(front.bytes());
 }
 
 // ---- texts
 
-fn change_text(call: &str, row: &mut Row, text: &mut Text) -> Result<(), Memory> {
+fn cut_text(text: &mut Text, to: u32, out: &mut Answer) {
+    if to as usize <= text.bytes().len() {
+        text.cut(to as usize);
+    } else {
+        out.refuse();
+    }
+}
+
+fn set_first(text: &mut Text, given: &Given, out: &mut Answer) {
+    if 4 <= text.bytes().len() {
+        set_first_word(given.order, text.bytes_mut(), given.number32(0));
+    } else {
+        out.refuse();
+    }
+}
+
+/// The text with another first byte.
+fn with_first(text: &mut Text, byte: u8) {
+    if let [first, ..] = text.bytes_mut() {
+        *first = byte;
+    }
+}
+
+/// What a call leaves in a text.
+fn change_text(call: &str, given: &Given, text: &mut Text, out: &mut Answer) -> Result<(), Memory> {
     match call {
-        "of" => {}
-        "copy" => *text = text.copy(row.alloc)?,
-        "push" => text.push(row.number8())?,
-        "extend" => text.extend(row.bytes().bytes())?,
-        "cut" => {
-            let to = row.number32() as usize;
-            if to <= text.bytes().len() {
-                text.cut(to);
-            } else {
-                row.refuse();
-            }
-        }
-        "first" => match text.bytes_mut() {
-            [first, ..] => *first = row.number8(),
-            [] => row.refuse(),
-        },
-        _ => row.refuse(),
+        "text of" => {}
+        "text copy" => *text = text.copy(out.alloc)?,
+        "text push" => text.push(given.number8(0))?,
+        "text extend" => text.extend(given.bytes(1))?,
+        "text cut" => cut_text(text, given.number32(0), out),
+        "text first" => with_first(text, given.number8(0)),
+        "set_first_word" => set_first(text, given, out),
+        _ => out.refuse(),
     }
     Ok(())
 }
 
-/// A call, a text, and what else the call takes: the text behind the call.
-fn text_call(row: &mut Row) {
-    let call = shown(row.word());
-    let start = row.bytes();
-    match Text::of(row.alloc, start.bytes()) {
+/// A text, and what else the call takes: the text behind the call.
+fn text_call(call: &str, given: &Given, out: &mut Answer) {
+    match Text::of(out.alloc, given.bytes(0)) {
         Ok(mut text) => {
-            let changed = change_text(call, row, &mut text);
-            row.wrote(changed);
-            row.put_bytes(text.bytes());
+            let changed = change_text(call, given, &mut text, out);
+            out.wrote(changed);
+            out.put_bytes(text.bytes());
         }
-        Err(_) => row.lose(),
+        Err(_) => out.lose(),
     }
 }
 
@@ -146,92 +135,101 @@ fn list_of(alloc: Global, items: &[u8]) -> Result<List<Boxed<u8>>, Memory> {
     Ok(list)
 }
 
-fn put_list(list: &List<Boxed<u8>>, row: &mut Row) {
-    row.put_number(list.len() as u64);
+fn put_list(list: &List<Boxed<u8>>, out: &mut Answer) {
+    out.put_number(list.len() as u64);
     for item in list.items() {
-        row.put_number(u64::from(*item.get()));
+        out.put_number(u64::from(*item.get()));
     }
 }
 
-fn get(list: &List<Boxed<u8>>, row: &mut Row) {
-    match list.get(row.number32() as usize) {
-        Some(item) => row.put_number(u64::from(*item.get())),
-        None => row.put(b"none"),
+fn get(list: &List<Boxed<u8>>, at: u32, out: &mut Answer) {
+    match list.get(at as usize) {
+        Some(item) => out.put_number(u64::from(*item.get())),
+        None => out.put(b"none"),
     }
 }
 
-fn replace(list: &mut List<Boxed<u8>>, row: &mut Row) {
-    let at = row.number32() as usize;
-    match Boxed::new(row.alloc, row.number8()) {
+fn replace(list: &mut List<Boxed<u8>>, at: u32, item: u8, out: &mut Answer) {
+    let at = at as usize;
+    match Boxed::new(out.alloc, item) {
         Ok(item) => {
             if at < list.len() {
                 let old = list.replace(at, item);
-                row.put_number(u64::from(old.into_inner()));
+                out.put_number(u64::from(old.into_inner()));
             } else {
-                row.refuse();
+                out.refuse();
             }
         }
-        Err(_) => row.lose(),
+        Err(_) => out.lose(),
     }
+    put_list(list, out);
 }
 
-fn cut_list(list: &mut List<Boxed<u8>>, row: &mut Row) {
-    let to = row.number32() as usize;
-    if to <= list.len() {
-        list.cut(to);
+fn cut_list(list: &mut List<Boxed<u8>>, to: u32, out: &mut Answer) {
+    if to as usize <= list.len() {
+        list.cut(to as usize);
     } else {
-        row.refuse();
+        out.refuse();
     }
+    put_list(list, out);
 }
 
-fn call_list(call: &str, list: &mut List<Boxed<u8>>, row: &mut Row) {
-    match call {
-        "of" => {}
-        "get" => return get(list, row),
-        "replace" => replace(list, row),
-        "cut" => cut_list(list, row),
-        _ => row.refuse(),
+/// The items of a list of boxed bytes, and what else the call takes: what it gives, and the length and the items.
+fn list_call(call: &str, given: &Given, out: &mut Answer) {
+    match list_of(out.alloc, given.bytes(0)) {
+        Ok(mut list) => match call {
+            "list of" => put_list(&list, out),
+            "list get" => get(&list, given.number32(0), out),
+            "list replace" => replace(&mut list, given.number32(0), given.number8(1), out),
+            _ => cut_list(&mut list, given.number32(0), out),
+        },
+        Err(_) => out.lose(),
     }
-    put_list(list, row);
-}
-
-/// A call, the items of a list of boxed bytes, and what else the call takes: what it gives, and the length and the items.
-fn list_call(row: &mut Row) {
-    let call = shown(row.word());
-    let items = row.bytes();
-    match list_of(row.alloc, items.bytes()) {
-        Ok(mut list) => call_list(call, &mut list, row),
-        Err(_) => row.lose(),
-    }
-}
-
-// ---- faults
-
-fn fault(row: &mut Row) {
-    let number = row.number16();
-    let place = row.number();
-    row.put_fault(&Fault::at(number, place));
 }
 
 #[derive(Drop)]
 struct StBase;
 
 impl Calls for StBase {
-    fn answer(&mut self, call: &str, row: &mut Row) {
+    fn answer(&mut self, call: &str, given: &Given, out: &mut Answer) {
         match call {
-            "show" => shown_form(row),
-            "numerals" => numerals(row),
-            "field" => field(row),
-            "first_word" => first(row),
-            "set_first_word" => set_first(row),
-            "text" => text_call(row),
-            "list" => list_call(row),
-            "fault" => fault(row),
-            "size_of_steps" => row.put_number(std::mem::size_of::<Steps<Brand>>() as u64),
-            _ => row.refuse(),
+            "show" => shown_form(given, out),
+            "numerals" => numerals(given, out),
+            "field" => match given.order {
+                Order::Little => field::<false>(given, out),
+                Order::Big => field::<true>(given, out),
+            },
+            "first_word" => first(given, out),
+            "fault" => out.put_fault(&Fault::at(given.number16(0), given.number(1))),
+            "size_of_steps" => out.put_number(std::mem::size_of::<Steps<Brand>>() as u64),
+            "list of" => list_call(call, given, out),
+            "list get" => list_call(call, given, out),
+            "list replace" => list_call(call, given, out),
+            "list cut" => list_call(call, given, out),
+            _ => text_call(call, given, out),
         }
     }
 }
+
+const CALLS: &[u8] = b"
+show : bytes
+numerals : number32
+field : order number8 number8 number32
+first_word : order bytes
+set_first_word : order bytes number32
+text of : bytes
+text copy : bytes
+text push : bytes number8
+text extend : bytes bytes
+text cut : bytes number32
+text first : bytes number8
+list of : bytes
+list get : bytes number32
+list replace : bytes number32 number8
+list cut : bytes number32
+fault : number16 number64
+size_of_steps : nothing
+";
 
 const ROWS: &[u8] = b"
 # printed bytes
@@ -312,5 +310,5 @@ size_of_steps -> 0
 
 #[test]
 fn st_base_answers(rt: HostRuntime) {
-    all_hold(&rt, rt.alloc(), &mut StBase, ROWS);
+    all_hold(&rt, rt.alloc(), &mut StBase, CALLS, ROWS);
 }

@@ -3,20 +3,12 @@ ghost use Rattle.strtab.specs.StringTable.{is_zero};
 
 use crate::holds::all_hold;
 use strtab::{Builder, check_table, name_at};
-use test_tables::{Calls, Row};
+use test_tables::{Answer, Calls, Given};
 
-fn check(row: &mut Row) {
-    let order = row.order();
-    let table = row.bytes();
-    row.put_checked(check_table(order, table.bytes()));
-}
-
-fn name(row: &mut Row) {
-    let table = row.bytes();
-    let strx = row.number32();
-    match name_at(table.bytes(), strx) {
-        Ok(name) => row.put_bytes(name),
-        Err(fault) => row.put_fault(&fault),
+fn name(given: &Given, out: &mut Answer) {
+    match name_at(given.bytes(0), given.number32(0)) {
+        Ok(name) => out.put_bytes(name),
+        Err(fault) => out.put_fault(&fault),
     }
 }
 
@@ -27,30 +19,29 @@ pub fn zero_in(bytes: &[u8]) -> Option<usize>
     bytes.iter().position(|b| *b == 0)
 }
 
-fn add(builder: &mut Builder, spelled: &[u8], row: &mut Row) {
-    let name = row.bytes_in(spelled);
+fn add(builder: &mut Builder, spelled: &[u8], out: &mut Answer) {
+    let name = out.bytes_in(spelled);
     if zero_in(name.bytes()).is_some() {
-        return row.refuse();
+        return out.refuse();
     }
     match builder.add(name.bytes()) {
-        Ok(strx) => row.put_number(u64::from(strx)),
-        Err(refused) => row.put_refused(&refused),
+        Ok(strx) => out.put_number(u64::from(strx)),
+        Err(refused) => out.put_refused(&refused),
     }
 }
 
 /// An order, and names: the offset of each, and the table.
-fn build(row: &mut Row) {
-    let order = row.order();
-    match Builder::new(row.alloc) {
+fn build(given: &Given, out: &mut Answer) {
+    match Builder::new(out.alloc) {
         Ok(mut builder) => {
-            if row.has_more() {
-                for spelled in row.rest().split(|b| *b == b' ') {
-                    add(&mut builder, spelled, row);
+            if !given.rest.is_empty() {
+                for spelled in given.rest.split(|b| *b == b' ') {
+                    add(&mut builder, spelled, out);
                 }
             }
-            row.put_bytes(builder.finish(order).bytes());
+            out.put_bytes(builder.finish(given.order).bytes());
         }
-        Err(_) => row.lose(),
+        Err(_) => out.lose(),
     }
 }
 
@@ -58,15 +49,20 @@ fn build(row: &mut Row) {
 struct Strtab;
 
 impl Calls for Strtab {
-    fn answer(&mut self, call: &str, row: &mut Row) {
+    fn answer(&mut self, call: &str, given: &Given, out: &mut Answer) {
         match call {
-            "check_table" => check(row),
-            "name_at" => name(row),
-            "build" => build(row),
-            _ => row.refuse(),
+            "check_table" => out.put_checked(check_table(given.order, given.bytes(0))),
+            "name_at" => name(given, out),
+            _ => build(given, out),
         }
     }
 }
+
+const CALLS: &[u8] = b"
+check_table : order bytes
+name_at : bytes number32
+build : order rest
+";
 
 const ROWS: &[u8] = b"
 # the length in either order
@@ -120,5 +116,5 @@ build big . -> 0 00000004
 
 #[test]
 fn strtab_answers(rt: HostRuntime) {
-    all_hold(&rt, rt.alloc(), &mut Strtab, ROWS);
+    all_hold(&rt, rt.alloc(), &mut Strtab, CALLS, ROWS);
 }

@@ -9,14 +9,25 @@
 //! check_table big 00000004 -> ok
 //! ```
 //!
-//! A number is decimal, or behind `0x` hexadecimal. Bytes are a word of hexadecimal digits, two for each byte, and of texts between
-//! quotes, as `0000000c_'a.c'00`; `_` means nothing. No bytes are `.`.
+//! What words a call is given is said in another text, with a line for each call:
+//!
+//! ```text
+//! check_table : order bytes
+//! ```
+//!
+//! - `number8`, `number16`, `number32`, `number64`: a number of so many bits, decimal, or behind `0x` hexadecimal.
+//! - `bytes`: hexadecimal digits, two for each byte, and texts between quotes, as `0000000c_'a.c'00`; `_` means nothing. No bytes are `.`.
+//! - `order`: `little` or `big`.
+//! - `word`: any word, as it stands.
+//! - `rest`: all that is left, as it stands, perhaps nothing. `nothing`: no word.
 #![tactic(auto)]
 
-mod row;
+mod answer;
+mod given;
 mod table;
 mod words;
 
-pub use row::{Odd, Row};
+pub use answer::{Answer, Odd};
+pub use given::Given;
 pub use table::{Calls, Told, failed_rows};
-pub use words::{bytes_of, cut, plain, shown};
+pub use words::{bytes_of, cut, number_of, shown};

@@ -1,12 +1,13 @@
-use crate::row::{Odd, Row};
-use crate::words::{cut, halves, plain, shown};
+use crate::answer::{Answer, Odd};
+use crate::given::Given;
+use crate::words::{halves, plain, shown};
 use st_base::{Memory, Text};
 use std::alloc::Global;
 
 /// The calls that the rows of a table make.
 pub trait Calls {
-    /// Makes a call with the input of a row, and writes its answer.
-    fn answer(&mut self, call: &str, row: &mut Row);
+    /// Makes a call with what a row gives, and writes its answer.
+    fn answer(&mut self, call: &str, given: &Given, out: &mut Answer);
 }
 
 /// What is told of the rows that fail; nothing where none does.
@@ -68,10 +69,24 @@ impl Told {
     }
 
     /// A row: its call is made, and the answer is compared.
-    fn row<C: Calls>(&mut self, alloc: Global, calls: &mut C, about: &[u8], row: &[u8]) {
-        match halves(row) {
+    fn row<C: Calls>(
+        &mut self,
+        alloc: Global,
+        calls: &mut C,
+        lines: &[u8],
+        about: &[u8],
+        row: &[u8],
+    ) {
+        match halves(row, b" -> ") {
             Some((asked, said)) => match plain(alloc, said) {
-                Ok(said) => self.compare(about, row, answer_of(alloc, calls, asked), said.bytes()),
+                Ok(said) => {
+                    self.compare(
+                        about,
+                        row,
+                        answer_of(alloc, calls, lines, asked),
+                        said.bytes(),
+                    );
+                }
                 Err(_) => self.lost = true,
             },
             None => self.failed(about, row, b"no arrow"),
@@ -79,23 +94,56 @@ impl Told {
     }
 }
 
-/// What a call answers.
-fn answer_of<C: Calls>(alloc: Global, calls: &mut C, asked: &[u8]) -> Result<Text, Odd> {
-    let mut row = Row::new(alloc, asked);
-    let call = shown(row.word());
-    calls.answer(call, &mut row);
-    row.ended()
+/// What stands behind a call in a row, if the row makes this call.
+fn input_of<'a>(row: &'a [u8], call: &[u8]) -> Option<&'a [u8]> {
+    match row.strip_prefix(call) {
+        Some([]) => Some(&row[..0]),
+        Some([b' ', input @ ..]) => Some(input),
+        _ => None,
+    }
 }
 
-/// Makes the calls of a table, and tells the rows that do not have the answer that they say.
-pub fn failed_rows<C: Calls>(alloc: Global, calls: &mut C, table: &[u8]) -> Told {
+/// What the call of a row answers, of those that have a line.
+fn answer_of<C: Calls>(
+    alloc: Global,
+    calls: &mut C,
+    lines: &[u8],
+    asked: &[u8],
+) -> Result<Text, Odd> {
+    for line in lines.split(|b| *b == b'\n') {
+        if let Some((call, kinds)) = halves(line, b" : ") {
+            if let Some(input) = input_of(asked, call) {
+                return made(alloc, calls, call, kinds, input);
+            }
+        }
+    }
+    Err(Odd::Row)
+}
+
+/// Makes a call.
+fn made<C: Calls>(
+    alloc: Global,
+    calls: &mut C,
+    call: &[u8],
+    kinds: &[u8],
+    input: &[u8],
+) -> Result<Text, Odd> {
+    let given = Given::of(alloc, kinds, input)?;
+    let mut out = Answer::new(alloc);
+    calls.answer(shown(call), &given, &mut out);
+    out.ended()
+}
+
+/// Makes the calls of a table, where `lines` says what words each call is given, and tells the rows that do not have the answer that they
+/// say.
+pub fn failed_rows<C: Calls>(alloc: Global, calls: &mut C, lines: &[u8], table: &[u8]) -> Told {
     let mut told = Told::new(alloc);
     let mut about = &table[..0];
     for line in table.split(|b| *b == b'\n') {
         match line {
             [] => about = line,
             [b'#', ..] => about = line,
-            row => told.row(alloc, calls, about, row),
+            row => told.row(alloc, calls, lines, about, row),
         }
     }
     told

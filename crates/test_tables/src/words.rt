@@ -1,6 +1,8 @@
-use crate::row::Odd;
+ghost use Rattle.std.specs.Prelude.{◌≤◌, IfOk};
+
+use crate::answer::Odd;
 use hex::FromHexError;
-use st_base::{Memory, Text, put_hex2};
+use st_base::{Memory, Order, Text, put_hex2};
 use std::alloc::Global;
 
 // The parts of a row, and what they spell.
@@ -23,11 +25,19 @@ pub fn cut(text: &[u8], by: u8) -> Option<(&[u8], &[u8])> {
     None
 }
 
-/// What stands before ` -> ` in a row, and what behind it.
-pub fn halves(row: &[u8]) -> Option<(&[u8], &[u8])> {
+/// The first word, and what stands behind the blank after it.
+pub fn word(row: &[u8]) -> (&[u8], &[u8]) {
+    match cut(row, b' ') {
+        Some(parts) => parts,
+        None => (row, &row[..0]),
+    }
+}
+
+/// What stands before the first of these bytes, and what behind them.
+pub fn halves<'a>(row: &'a [u8], by: &[u8]) -> Option<(&'a [u8], &'a [u8])> {
     for at in 0..row.len() {
-        if row[at..].starts_with(b" -> ") {
-            return Some((&row[..at], &row[at + 4..]));
+        if row[at..].starts_with(by) {
+            return Some((&row[..at], &row[at + by.len()..]));
         }
     }
     None
@@ -80,12 +90,27 @@ fn number_in(base: u64, digits: &[u8]) -> Option<u64> {
     Some(value)
 }
 
-/// The number that a word spells.
-pub fn number_of(spelled: &[u8]) -> Option<u64> {
-    match spelled {
+/// The number that a word spells, at most this one.
+pub fn number_of(most: u64, spelled: &[u8]) -> Result<u64, Odd>
+    ensures { IfOk result (λ number. number ≤ most) }
+{
+    let number = match spelled {
         [] => None,
         [b'0', b'x', digits @ ..] => number_in(16, digits),
         digits => number_in(10, digits),
+    };
+    match number {
+        Some(number) if number <= most => Ok(number),
+        _ => Err(Odd::Row),
+    }
+}
+
+/// The order that a word names.
+pub fn order_of(name: &[u8]) -> Result<Order, Odd> {
+    match shown(name) {
+        "little" => Ok(Order::Little),
+        "big" => Ok(Order::Big),
+        _ => Err(Odd::Row),
     }
 }
 
