@@ -1,3 +1,6 @@
+ghost use Rattle.std.specs.Prelude.{◌≡◌, ◌≢◌, ℕ, List, Ok};
+ghost use Rattle.test_tables.specs.Tables.{IsTold};
+
 use crate::answer::{Answer, Odd};
 use crate::given::Given;
 use crate::words::{halves, plain, shown};
@@ -36,11 +39,15 @@ impl Told {
     }
 
     /// Out of memory.
-    pub fn lose(&mut self) {
+    pub fn lose(&mut self)
+        ensures { IsTold self.new }
+    {
         self.lost = true;
     }
 
-    fn line(&mut self, text: &[u8]) {
+    fn line(&mut self, text: &[u8])
+        ensures { IsTold self.new }
+    {
         let told = self.text.extend(text);
         let ended = self.text.push(b'\n');
         if told.is_err() || ended.is_err() {
@@ -49,14 +56,20 @@ impl Told {
     }
 
     /// A row that fails, the line above it that says what it is about, and what is wrong.
-    pub fn failed(&mut self, about: &[u8], row: &[u8], wrong: &[u8]) {
+    pub fn failed(&mut self, about: &[u8], row: &[u8], wrong: &[u8])
+        ensures { IsTold self.new }
+    {
         self.line(about);
         self.line(row);
         self.line(wrong);
     }
 
-    /// What a row answers, beside what it says.
-    pub fn compare(&mut self, about: &[u8], row: &[u8], answer: Result<Text, Odd>, said: &[u8]) {
+    /// What a row answers, beside what it says: where the two differ, or there is no answer, it is told, and nothing else is.
+    pub fn compare(&mut self, about: &[u8], row: &[u8], answer: Result<Text, Odd>, said: &[u8])
+        ensures kept { answer ≡ Ok said.now → self.new ≡ self.old }
+        ensures told { answer ≢ Ok said.now → IsTold self.new }
+        ensures stays { IsTold self.old → IsTold self.new }
+    {
         match answer {
             Ok(answer) => {
                 if answer.bytes() != said {
@@ -76,7 +89,9 @@ impl Told {
         lines: &[u8],
         about: &[u8],
         row: &[u8],
-    ) {
+    )
+        ensures { IsTold self.old → IsTold self.new }
+    {
         match halves(row, b" -> ") {
             Some((asked, said)) => match plain(alloc, said) {
                 Ok(said) => {

@@ -1,4 +1,4 @@
-ghost use Rattle.std.specs.Prelude.{◌≤◌, IfOk};
+ghost use Rattle.std.specs.Prelude.{◌≡◌, ◌≤◌, ◌++◌, ◌∷◌, IfOk, IfSome};
 
 use crate::answer::Odd;
 use hex::FromHexError;
@@ -16,7 +16,9 @@ pub fn shown(text: &[u8]) -> &str {
 }
 
 /// What stands before the first of this byte, and what behind it.
-pub fn cut(text: &[u8], by: u8) -> Option<(&[u8], &[u8])> {
+pub fn cut(text: &[u8], by: u8) -> Option<(&[u8], &[u8])>
+    ensures { IfSome result (λ parts. text.now ≡ parts.0.now ++ (by ∷ parts.1.now)) }
+{
     for at in 0..text.len() {
         if text[at] == by {
             return Some((&text[..at], &text[at + 1..]));
@@ -74,33 +76,16 @@ pub fn bytes_of(alloc: Global, spelled: &[u8]) -> Result<Text, Odd> {
     }
 }
 
-fn number_in(base: u64, digits: &[u8]) -> Option<u64> {
-    let mut value = 0u64;
-    for b in digits {
-        let digit = match b {
-            b'0'..=b'9' => *b - b'0',
-            b'a'..=b'f' => *b - b'a' + 10,
-            _ => 16,
-        };
-        if base <= u64::from(digit) {
-            return None;
-        }
-        value = value.wrapping_mul(base).wrapping_add(u64::from(digit));
-    }
-    Some(value)
-}
-
 /// The number that a word spells, at most this one.
 pub fn number_of(most: u64, spelled: &[u8]) -> Result<u64, Odd>
     ensures { IfOk result (λ number. number ≤ most) }
 {
     let number = match spelled {
-        [] => None,
-        [b'0', b'x', digits @ ..] => number_in(16, digits),
-        digits => number_in(10, digits),
+        [b'0', b'x', digits @ ..] => u64::from_str_radix(shown(digits), 16),
+        digits => u64::from_str_radix(shown(digits), 10),
     };
     match number {
-        Some(number) if number <= most => Ok(number),
+        Ok(number) if number <= most => Ok(number),
         _ => Err(Odd::Row),
     }
 }
