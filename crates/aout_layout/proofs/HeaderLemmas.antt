@@ -48,7 +48,7 @@ pub sizes-pass : (h : Header) → HeaderFits h → AllHold (size_checks h)
 sizes-pass h fits =
     (eq-eqb _ _ fits.whole_entries, (eq-eqb _ _ fits.whole_text_relocs, (eq-eqb _ _ fits.whole_data_relocs, (le-leb _ _ fits.addresses, tt))))
 
--- a header that passes them fits, where the order of its file can be told
+-- a header that passes them fits, where the order of its file is known
 pub sizes-fit : (h : Header) → AllHold (size_checks h) → h.machine ≢ TWO_ORDERS → HeaderFits h
 sizes-fit h all told = record {
   order_told = told;
@@ -60,7 +60,7 @@ sizes-fit h all told = record {
 
 -- ---- what is read is spelled, and what is spelled is read
 
--- what reading answers where the order is told: the checks of the sizes, and the header in that order
+-- what reading answers where the order is known: the checks of the sizes, and the header in that order
 read_in : (big : Bool) (bytes : List ℕ) → has_magic big bytes ≡ true → has_magic (not big) bytes ≡ false → read bytes ≡ checked (size_checks (header_of big bytes)) (header_of big bytes)
 read_in true bytes has lacks = rw (has, lacks) refl
 read_in false bytes has lacks = rw (has, lacks) refl
@@ -150,7 +150,7 @@ write-spelled h numbers fits =
       fits = fits;
     }
 
--- what is written behind the first word of a header that was read
+-- what is written after the first word of a header that was read
 abbrev fields_behind : Bool → List ℕ → List ℕ
 fields_behind big bytes =
     bytes_of big 4 (number_at big bytes 4 4) ++ (bytes_of big 4 (number_at big bytes 8 4) ++ (bytes_of big 4 (number_at big bytes 12 4) ++

@@ -1,4 +1,4 @@
--- The header of an a.out file and its 32 bytes. After a.out(5), `struct exec`; that the first word tells the byte order, that
+-- The header of an a.out file and its 32 bytes. After a.out(5), `struct exec`; that the first word decides the byte order, that
 -- a first word which is the magic in both orders is refused, and the order of the checks are this project's own.
 use Rattle.std.specs.Prelude.{◌≡◌, ◌≢◌, ◌≤◌, ◌<◌, ℕ, ◌+◌, ◌*◌, ◌/◌, ◌%◌, ◌^◌, ◌==◌, nat_le, Bool, true, false, not, ◌&&◌, ◌||◌, List, [], ◌∷◌, ◌++◌, Result}
 use Rattle.st_base.specs.ByteOrder.{is_big, order_of}
@@ -82,7 +82,7 @@ size_checks h =
     ∷ check (addresses_fit h) ADDRESS 20
     ∷ []
 
--- the checks of the bytes of a header: the order can be told, then the sizes in that order
+-- the checks of the bytes of a header: the order is known, then the sizes in that order
 abbrev pub header_checks : List ℕ → List Check
 header_checks bytes =
     check (has_magic false bytes || has_magic true bytes) MAGIC 0

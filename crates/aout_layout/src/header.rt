@@ -19,7 +19,7 @@ pub const DATA_RELOCS: usize = 28;
 
 /// The magic of the files that this project reads, OMAGIC.
 pub const OMAGIC: u32 = 0x0107;
-/// The machine word that is refused: behind it the first word holds the magic in both byte orders.
+/// The machine word that is refused: with it the first word holds the magic in both byte orders.
 pub const TWO_ORDERS: u16 = 0x0701;
 
 /// The header of an a.out file. All sizes are in bytes.

@@ -11,7 +11,8 @@ use Rattle.std.proofs.lemmas.List.Folds.{list_any-append}
 use denote.Ref.{Bor}
 use Rattle.aout_link.specs.declared.definitions.Known.{Known}
 use Rattle.aout_link.specs.Answering.{listed, AreDistinct, AreNew}
-use Rattle.aout_link.specs.Moves.{fronts, padded}
+use Rattle.st_base.specs.Multiples.{aligned}
+use Rattle.aout_link.specs.Moves.{fronts}
 use Rattle.aout_link.specs.Tables.{known_by, common_at, commons_total, placed_commons}
 use Rattle.aout_link.proofs.FrontLemmas.{fronts_push}
 use Rattle.aout_link.proofs.DefinitionLemmas.{known-append}
@@ -94,8 +95,8 @@ common_placed old ss start at q s table new total value fresh is are e sum v tol
     ∙ ap (placed_commons start) (sym (taken ss at (q, s) is)))
 
 -- and its padded size is added
-pub total_more : (ss : List (List ℕ × ℕ)) (at : ℕ) (q : List ℕ) (s : ℕ) (total more : ℕ) → slice_get ss at ≡ Some (q, s) → total ≡ commons_total (take at ss) → more ≡ padded s
+pub total_more : (ss : List (List ℕ × ℕ)) (at : ℕ) (q : List ℕ) (s : ℕ) (total more : ℕ) → slice_get ss at ≡ Some (q, s) → total ≡ commons_total (take at ss) → more ≡ aligned s
     → total + more ≡ commons_total (take (at + 1) ss)
 total_more ss at q s total more is e m =
-    let push = sum_by_push (λ x. padded x.1) (take at ss) (q, s) in
+    let push = sum_by_push (λ x. aligned x.1) (take at ss) (q, s) in
     ap (λ (n : ℕ). n + more) e ∙ ap (λ (n : ℕ). commons_total (take at ss) + n) m ∙ sym push ∙ ap commons_total (sym (taken ss at (q, s) is))

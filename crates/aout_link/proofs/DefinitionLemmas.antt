@@ -18,7 +18,8 @@ use Rattle.aout_link.proofs.MoveLemmas.{take_item}
 use Rattle.aout_link.specs.Answering.{Tells, Defines}
 use Rattle.aout_link.specs.Refusals.{defines_again, twice_fault, twice_in, fault_in, Refuses}
 use Rattle.aout_link.specs.Sources.{Source}
-use Rattle.aout_link.specs.Tables.{moved_value, moved_entry, moved_all, is_definition, defines, entries_of, definitions, known_by, known_of}
+use Rattle.nlist_codec.specs.Kinds.{defines_name}
+use Rattle.aout_link.specs.Tables.{moved_value, moved_entry, moved_all, defines, entries_of, definitions, known_by, known_of}
 use Rattle.aout_link.specs.declared.moves.Moves.{Moves}
 use Rattle.aout_link.specs.declared.definitions.Known.{Known}
 
@@ -50,7 +51,7 @@ known-append p (e ∷ es) ys = by (p e.0) (known-append p es ys)
 
 -- one entry defines a name exactly where it is among its definitions
 defines_one : (q : List ℕ) (n : Named) → is_some (known_by q (definitions (n ∷ []))) ≡ list_any (defines q) (n ∷ [])
-defines_one q n = by (is_definition n.kind)
+defines_one q n = by (defines_name n.kind)
   where
     named : (b : Bool) → is_some (cond b (Some (known_of n).1) None) ≡ (b || false)
     named true = refl
@@ -62,7 +63,7 @@ defines_one q n = by (is_definition n.kind)
 
 -- the definitions of entries behind each other
 pub definitions-append : (xs ys : List Named) → definitions (xs ++ ys) ≡ definitions xs ++ definitions ys
-definitions-append xs ys = ap (map known_of) (filter-append (λ n. is_definition n.kind) xs ys) ∙ map-append known_of (filter (λ n. is_definition n.kind) xs) (filter (λ n. is_definition n.kind) ys)
+definitions-append xs ys = ap (map known_of) (filter-append (λ n. defines_name n.kind) xs ys) ∙ map-append known_of (filter (λ n. defines_name n.kind) xs) (filter (λ n. defines_name n.kind) ys)
 
 -- one entry more
 tells_push : (m : Moves) (before : List Named) (n : Named) (table new : List (List ℕ × Known)) → new ≡ table ++ definitions (moved_entry m n ∷ [])
@@ -102,7 +103,7 @@ define_step before k m ns j n old table new lt is first e d =
 
 -- an entry that defines nothing
 pub define_skip : (before : List Named) (k : ℕ) (m : Moves) (ns : List Named) (j : ℕ) (n : Named) (old table : List (List ℕ × Known))
-    → j < length ns → n ≡ get_or ns j n → is_definition n.kind ≡ false
+    → j < length ns → n ≡ get_or ns j n → defines_name n.kind ≡ false
     → DefinedSoFar before k m ns j old table → DefinedSoFar before k m ns (j + 1) old table
 define_skip before k m ns j n old table lt is plain d =
     define_step before k m ns j n old table table lt is (ap (λ (b : Bool). b && list_any (defines n.name) (before ++ take j ns)) plain)
@@ -110,7 +111,7 @@ define_skip before k m ns j n old table lt is plain d =
 
 -- an entry that defines a new name
 pub define_note : (before : List Named) (k : ℕ) (m : Moves) (ns : List Named) (j : ℕ) (n : Named) (old table new : List (List ℕ × Known)) (fresh : Bool) (value : ℕ) (q : List ℕ)
-    → j < length ns → n ≡ get_or ns j n → is_definition n.kind ≡ true → q ≡ n.name → fresh ≡ true → fresh ≡ not (is_some (known_by q table))
+    → j < length ns → n ≡ get_or ns j n → defines_name n.kind ≡ true → q ≡ n.name → fresh ≡ true → fresh ≡ not (is_some (known_by q table))
     → value ≡ moved_value m n → (fresh ≡ true → new ≡ table ++ (q, record { kind = n.kind; value = value }) ∷ [])
     → DefinedSoFar before k m ns j old table → DefinedSoFar before k m ns (j + 1) old new
 define_note before k m ns j n old table new fresh value q lt is def own free told same e d =
@@ -125,7 +126,7 @@ define_note before k m ns j n old table new fresh value q lt is def own free tol
 
 -- a name that is defined again
 pub define_again : (before : List Named) (k : ℕ) (m : Moves) (ns : List Named) (j : ℕ) (n : Named) (old table : List (List ℕ × Known)) (fresh : Bool) (q : List ℕ)
-    → j < length ns → n ≡ get_or ns j n → is_definition n.kind ≡ true → q ≡ n.name → fresh ≡ false → fresh ≡ not (is_some (known_by q table))
+    → j < length ns → n ≡ get_or ns j n → defines_name n.kind ≡ true → q ≡ n.name → fresh ≡ false → fresh ≡ not (is_some (known_by q table))
     → DefinedSoFar before k m ns j old table → twice_fault before k 0 ns ≡ Some (fault_in TWICE k j)
 define_again before k m ns j n old table fresh q lt is def own known told d =
     let there : list_any (defines n.name) (before ++ take j ns) ≡ true = sym (d.tells n.name) ∙ not_false _ (ap (λ (x : List ℕ). not (is_some (known_by x table))) (sym own) ∙ (sym told ∙ known)) in

@@ -3,7 +3,8 @@ use Rattle.std.proofs.Common.{◌≡◌, ℕ, ◌+◌, ◌%◌, ◌^◌, ◌<◌
 use Rattle.std.proofs.lemmas.List.Sums.{sum_by-cons, sum_by_push}
 use Rattle.aout_link.specs.declared.definitions.Known.{Known}
 use Rattle.aout_link.specs.Sources.{Source}
-use Rattle.aout_link.specs.Moves.{fronts, padded}
+use Rattle.st_base.specs.Multiples.{aligned}
+use Rattle.aout_link.specs.Moves.{fronts}
 use Rattle.aout_link.specs.Tables.{common_at, commons_total, placed_commons}
 use Rattle.aout_link.specs.Accepted.{Accepted, exact_commons, HasExactCommons}
 
@@ -12,8 +13,8 @@ exact_from : (start : ℕ) (before ss : List (List ℕ × ℕ)) → start + comm
     → map {B = List ℕ × Known} (λ p. (p.1.0, common_at start p.0)) (fronts before ss) ≡ map {B = List ℕ × Known} (λ p. (p.1.0, record { kind = 9; value = start + commons_total p.0 })) (fronts before ss)
 exact_from start before [] low = refl
 exact_from start before (e ∷ ss) low =
-    let push = sum_by_push (λ x. padded x.1) before e in
-    let cons = sum_by-cons (λ x. padded x.1) e ss in
+    let push = sum_by_push (λ x. aligned x.1) before e in
+    let cons = sum_by-cons (λ x. aligned x.1) e ss in
     let here : (start + commons_total before) % 2 ^ 32 ≡ start + commons_total before = omega arith in
     ap (λ (v : ℕ). (e.0, record { kind = 9; value = v }) ∷ map {B = List ℕ × Known} (λ p. (p.1.0, common_at start p.0)) (fronts (before ++ e ∷ []) ss)) here
     ∙ ap (λ (r : List (List ℕ × Known)). (e.0, record { kind = 9; value = start + commons_total before }) ∷ r) (exact_from start (before ++ e ∷ []) ss (omega (arith, push, cons)))

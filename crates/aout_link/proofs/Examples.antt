@@ -6,8 +6,10 @@ use Rattle.st_base.specs.declared.order.Order.TheVariants.{Little, Big}
 use Rattle.st_base.specs.Faults.{fault_at}
 use Rattle.stab_codes.specs.Segments.{segment_of}
 use Rattle.nlist_codec.specs.declared.named.Named.{Named}
+use Rattle.aout_object.specs.declared.parts.Parts.{Parts}
 use Rattle.aout_link.specs.Sources.{Source}
-use Rattle.aout_link.specs.Moves.{padded, moved, all_moves}
+use Rattle.st_base.specs.Multiples.{aligned}
+use Rattle.aout_link.specs.Moves.{moved, all_moves}
 use Rattle.aout_link.specs.Tables.{common_sizes, names_table}
 use Rattle.aout_link.specs.Placing.{placed_all, texts, datas, bss_of}
 use Rattle.aout_link.specs.Refusals.{list_fault, fault_in}
@@ -16,43 +18,41 @@ use Rattle.aout_link.specs.Refusals.{list_fault, fault_in}
 abbrev entry : ℕ → ℕ → List ℕ → Named
 entry kind value name = record { kind = kind; other = 0; desc = 0; value = value; name = name }
 
+-- a source of these segments and entries; the offsets of its names and its string table are of no account
+abbrev source : Parts → List Named → Source
+source parts named = record { object = record { parts = parts; entries = []; strings = [] }; parts = parts; named = named }
+
 -- five bytes of text, a call whose field counts from the place behind it; `_f` stands at its begin, and its common has 3 bytes
 abbrev caller : Source
-caller = record {
-  parts = record {
-    order = Little;
-    machine = 100;
-    bss = 0;
-    entry = 0;
-    text = 232 ∷ 251 ∷ 255 ∷ 255 ∷ 255 ∷ [];
-    data_part = [];
-    text_relocs = record { address = 1; symbol = 1; pcrel = true; length = 2; external = true } ∷ [];
-    data_relocs = [];
-  };
-  named = entry 5 0 (codes "_f") ∷ entry 1 0 (codes "_g") ∷ entry 1 3 (codes "_c") ∷ [];
-}
+caller = source (record {
+  order = Little;
+  machine = 100;
+  bss = 0;
+  entry = 0;
+  text = 232 ∷ 251 ∷ 255 ∷ 255 ∷ 255 ∷ [];
+  data_part = [];
+  text_relocs = record { address = 1; symbol = 1; pcrel = true; length = 2; external = true } ∷ [];
+  data_relocs = [];
+}) (entry 5 0 (codes "_f") ∷ entry 1 0 (codes "_g") ∷ entry 1 3 (codes "_c") ∷ [])
 
 -- one byte of text, and a word of data that points to its begin; its common has 6 bytes, and a block begins at 8 from its function on
 abbrev callee : Source
-callee = record {
-  parts = record {
-    order = Little;
-    machine = 100;
-    bss = 0;
-    entry = 0;
-    text = 144 ∷ [];
-    data_part = 0 ∷ 0 ∷ 0 ∷ 0 ∷ [];
-    text_relocs = [];
-    data_relocs = record { address = 0; symbol = 4; pcrel = false; length = 2; external = false } ∷ [];
-  };
-  named = entry 5 0 (codes "_g") ∷ entry 1 6 (codes "_c") ∷ entry 0xc0 8 [] ∷ [];
-}
+callee = source (record {
+  order = Little;
+  machine = 100;
+  bss = 0;
+  entry = 0;
+  text = 144 ∷ [];
+  data_part = 0 ∷ 0 ∷ 0 ∷ 0 ∷ [];
+  text_relocs = [];
+  data_relocs = record { address = 0; symbol = 4; pcrel = false; length = 2; external = false } ∷ [];
+}) (entry 5 0 (codes "_g") ∷ entry 1 6 (codes "_c") ∷ entry 0xc0 8 [] ∷ [])
 
 abbrev both : List Source
 both = caller ∷ callee ∷ []
 
 -- a size is padded behind, and a multiple of 4 stays
-padded-values : padded 5 ≡ 8
+padded-values : aligned 5 ≡ 8
 padded-values = refl
 
 -- text at 4096, data behind 12 bytes of text, bss behind 4 bytes of data
@@ -114,19 +114,16 @@ far-address = refl
 
 -- one byte of text that takes the value of `_a`, an absolute name, at an offset; a stab stands behind
 abbrev absolute : ℕ → ℕ → ℕ → Source
-absolute value at symbol = record {
-  parts = record {
-    order = Big;
-    machine = 100;
-    bss = 0;
-    entry = 0;
-    text = 0 ∷ [];
-    data_part = [];
-    text_relocs = record { address = at; symbol = symbol; pcrel = false; length = 0; external = true } ∷ [];
-    data_relocs = [];
-  };
-  named = entry 1 0 (codes "_a") ∷ entry 3 value (codes "_a") ∷ entry 0x64 0 (codes "a.c") ∷ [];
-}
+absolute value at symbol = source (record {
+  order = Big;
+  machine = 100;
+  bss = 0;
+  entry = 0;
+  text = 0 ∷ [];
+  data_part = [];
+  text_relocs = record { address = at; symbol = symbol; pcrel = false; length = 0; external = true } ∷ [];
+  data_relocs = [];
+}) (entry 1 0 (codes "_a") ∷ entry 3 value (codes "_a") ∷ entry 0x64 0 (codes "a.c") ∷ [])
 
 -- the text of it by itself
 abbrev absolute_text : ℕ → List ℕ

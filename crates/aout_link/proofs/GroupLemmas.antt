@@ -7,7 +7,8 @@ use Rattle.st_base.specs.declared.fault.Fault.{Fault}
 use Rattle.nlist_codec.specs.declared.named.Named.{Named}
 use Rattle.aout_object.specs.Decoding.{fault_or}
 use Rattle.aout_link.specs.Groups.{both_moves, InGroups, AreWords, MovesAtOnce}
-use Rattle.aout_link.specs.Moves.{fronts, moves_between, starts_behind, moves_after, padded, text_size, data_size, bss_size, totals_of, starts_of, moved, moves_of}
+use Rattle.st_base.specs.Multiples.{aligned}
+use Rattle.aout_link.specs.Moves.{fronts, moves_between, starts_behind, moves_after, text_size, data_size, bss_size, totals_of, starts_of, moved, moves_of}
 use Rattle.aout_link.specs.Placing.{placed_entry, placed_all, text_part, data_part, texts, datas}
 use Rattle.aout_link.specs.Refusals.{twice_fault, twice_in, undefined_fault, undefined_in, object_fault, relocs_in}
 use Rattle.aout_link.specs.Sources.{Source}
@@ -136,7 +137,7 @@ fours (o ∷ os) =
     ((length o.parts.text + 3) / 4 + rest.0, let e = rest.1 in omega (arith, s, e))
 
 -- a group is not padded again
-pub padded_total : (os : List Source) → padded (totals_of os).text ≡ (totals_of os).text
+pub padded_total : (os : List Source) → aligned (totals_of os).text ≡ (totals_of os).text
 padded_total os = let f = fours os in let e = f.1 in omega (arith, e)
 
 -- ---- entries moved twice

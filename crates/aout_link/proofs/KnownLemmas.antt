@@ -7,7 +7,8 @@ use Rattle.nlist_codec.specs.declared.named.Named.{Named}
 use Rattle.header_merge.proofs.FrontLemmas.{all_append}
 use Rattle.aout_link.specs.Sources.{Source}
 use Rattle.aout_link.specs.Moves.{fronts, all_moves}
-use Rattle.aout_link.specs.Tables.{is_definition, known_of, known_by, definitions, common_at, placed_commons, common_sizes, bss_end, moved_all, names_table}
+use Rattle.nlist_codec.specs.Kinds.{defines_name}
+use Rattle.aout_link.specs.Tables.{known_of, known_by, definitions, common_at, placed_commons, common_sizes, bss_end, moved_all, names_table}
 use Rattle.aout_link.specs.declared.definitions.Known.{Known}
 
 -- the kind of what a name stands for is such a kind
@@ -26,7 +27,7 @@ found_kind P (e ∷ es) q other a o = by (bytes_eq q e.0) (found_kind P es q oth
 -- what holds of the kinds of definitions, of which one is also that of commons
 module _ (P : ℕ → Type 0) (absolute : P 3) (text : P 5) (datum : P 7) (bss : P 9) where
   -- a definition has such a kind
-  definition_kind : (kind : ℕ) → is_definition kind ≡ true → P kind
+  definition_kind : (kind : ℕ) → defines_name kind ≡ true → P kind
   definition_kind kind e = by (kind == 3) (kind == 5) (kind == 7) (kind == 9) refl refl refl refl e
     where
       at : (n : ℕ) → kind == n ≡ true → P n → P kind
@@ -42,10 +43,10 @@ module _ (P : ℕ → Type 0) (absolute : P 3) (text : P 5) (datum : P 7) (bss :
   -- so have those among entries
   definition_kinds : (ns : List Named) → AllByRecursion (HasKind P) (definitions ns)
   definition_kinds [] = tt
-  definition_kinds (n ∷ ns) = by (is_definition n.kind) refl (definition_kinds ns)
+  definition_kinds (n ∷ ns) = by (defines_name n.kind) refl (definition_kinds ns)
     where
-      by : (b : Bool) → is_definition n.kind ≡ b → AllByRecursion (HasKind P) (definitions ns)
-          → AllByRecursion (HasKind P) (map known_of (cond b (n ∷ filter (λ x. is_definition x.kind) ns) (filter (λ x. is_definition x.kind) ns)))
+      by : (b : Bool) → defines_name n.kind ≡ b → AllByRecursion (HasKind P) (definitions ns)
+          → AllByRecursion (HasKind P) (map known_of (cond b (n ∷ filter (λ x. defines_name x.kind) ns) (filter (λ x. defines_name x.kind) ns)))
       by true is rest = (definition_kind n.kind is, rest)
       by false is rest = rest
 

@@ -8,14 +8,14 @@ use Rattle.stab_codes.specs.Segments.{segment_of}
 use Rattle.stab_codes.specs.Table.{carries_symbol}
 use Rattle.stab_codes.specs.declared.code.TheConstants.{N_SO, N_BINCL, N_EINCL, N_EXCL}
 use Rattle.nlist_codec.specs.declared.named.Named.{Named}
-use Rattle.stab_units.specs.declared.outline_types.Marks.TheVariants.{Object}
-use Rattle.stab_units.specs.declared.outline_types.UnitSpan.{UnitSpan}
+use Rattle.unit_outlines.specs.declared.outline_types.Marks.TheVariants.{Object}
+use Rattle.unit_outlines.specs.declared.outline_types.UnitSpan.{UnitSpan}
 use Rattle.stab_units.specs.declared.unit.Unit.{Unit}
-use Rattle.stab_units.specs.Firsts.{FirstOf, IsTold, first_told}
-use Rattle.stab_units.specs.Outlines.{OutlineFault, units_of, outline_tell}
+use Rattle.unit_outlines.specs.Firsts.{FirstOf, IsTold, first_told}
+use Rattle.unit_outlines.specs.Outlines.{OutlineFault, units_of, outline_tell}
 use Rattle.stab_units.specs.Units.{unit_of}
-use Rattle.stab_units.specs.Worlds.{AreUnits}
-use Rattle.stab_units.proofs.FirstLemmas.{first_of_all}
+use Rattle.stab_units.specs.ObjectUnits.{AreUnits}
+use Rattle.unit_outlines.proofs.FirstLemmas.{first_of_all}
 use Rattle.bincl_match.specs.declared.range.RangeOf.{RangeOf}
 use Rattle.bincl_match.specs.declared.range.Grouping.{Grouping}
 use Rattle.bincl_match.specs.Ranges.{AreRanges}
@@ -27,7 +27,7 @@ use Rattle.aout_link.specs.Tables.{names_table}
 use Rattle.aout_link.specs.Placing.{placed_all}
 use Rattle.aout_link.specs.Refusals.{list_fault}
 use Rattle.aout_link.specs.Linking.{IsGroupingOf, kept_from}
-use Rattle.aout_link.specs.declared.linking.Mode.TheVariants.{Keep}
+use Rattle.bincl_match.specs.declared.mode.Mode.TheVariants.{Keep}
 
 -- ---- the objects
 
@@ -42,6 +42,11 @@ unit_at start instance name = stab N_SO start name ∷ stab N_BINCL instance (co
 -- an object with that unit
 abbrev object : List ℕ → Source
 object name = record {
+  object = record {
+    parts = record { order = Little; machine = 100; bss = 0; entry = 0; text = 144 ∷ 144 ∷ 144 ∷ 144 ∷ []; data_part = []; text_relocs = []; data_relocs = [] };
+    entries = [];
+    strings = [];
+  };
   parts = record { order = Little; machine = 100; bss = 0; entry = 0; text = 144 ∷ 144 ∷ 144 ∷ 144 ∷ []; data_part = []; text_relocs = []; data_relocs = [] };
   named = unit_at 0 7 name;
 }

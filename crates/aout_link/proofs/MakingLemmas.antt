@@ -35,7 +35,8 @@ use Rattle.reloc.specs.Sums.{bytes_in, bits_in, sum_fits, field_sum, applied}
 use Rattle.aout_object.specs.Decoding.{fault_or}
 use Rattle.aout_object.specs.Objects.{is_accepted_kind}
 use Rattle.aout_link.specs.Making.{CanBeMade}
-use Rattle.aout_link.specs.Moves.{padded, text_size, data_size, totals_of, all_moves}
+use Rattle.st_base.specs.Multiples.{aligned}
+use Rattle.aout_link.specs.Moves.{text_size, data_size, totals_of, all_moves}
 use Rattle.aout_link.specs.Placing.{Frame, text_frame, data_frame, IsPlaced, placed_entry, placed_all, amount, relocated, zeros_for, text_part, data_part, texts, datas}
 use Rattle.aout_link.specs.Refusals.{fault_in, twice_in, empty_fault, order_fault, machine_fault, address_fault, list_fault, undefined_in, check_in, is_lawful, reloc_checks, relocs_fault, text_fault, data_fault, object_fault, relocs_in}
 use Rattle.aout_link.specs.Sources.{Source, HasAcceptedKind}
@@ -89,13 +90,13 @@ length-relocated big k i f segment (r ∷ rs) e =
     ∙ length-set big segment r.address (bytes_in r.length) _ within
 
 -- a padded size is no smaller
-padded-le : (n : ℕ) → n ≤ padded n
+padded-le : (n : ℕ) → n ≤ aligned n
 padded-le n = omega arith
 
 -- a part of the image has its padded size
-length-part : (bytes : List ℕ) (size : ℕ) → length bytes ≡ size → length (bytes ++ zeros_for size) ≡ padded size
+length-part : (bytes : List ℕ) (size : ℕ) → length bytes ≡ size → length (bytes ++ zeros_for size) ≡ aligned size
 length-part bytes size e =
-    let zeros = length-replicate {A = ℕ} (padded size - size) 0 in
+    let zeros = length-replicate {A = ℕ} (aligned size - size) 0 in
     let low = padded-le size in
     length-append bytes (zeros_for size) ∙ omega (arith, zeros, low, e)
 

@@ -10,8 +10,8 @@ use Rattle.nlist_codec.specs.declared.named.Named.{Named}
 use Rattle.aout_object.specs.Decoding.{Answers}
 use Rattle.aout_object.specs.Making.{HasWholeName}
 use Rattle.aout_object.specs.Objects.{Contents}
-use Rattle.stab_units.specs.Changing.{Change, all_headers, changed_at, changed_from, is_kept_in, mark_changed, range_in}
-use Rattle.stab_units.specs.Marks.{is_header}
+use Rattle.stab_units.specs.Changing.{Change, changed_at, changed_from, is_kept_in, mark_changed}
+use Rattle.unit_outlines.specs.Marks.{is_header, all_headers, range_in}
 use Rattle.bincl_match.specs.declared.range.Grouping.{Grouping}
 use Rattle.header_merge.specs.Merged.{change_of}
 use Rattle.header_merge.proofs.FrontLemmas.{all_append}

@@ -12,7 +12,7 @@ use Rattle.aout_object.specs.Making.{HasWholeName}
 use Rattle.aout_object.specs.Objects.{Contents}
 use Rattle.aout_object.proofs.MakeLemmas.{named_of-made}
 use Rattle.stab_units.specs.Joining.{AreAlike}
-use Rattle.stab_units.specs.Worlds.{AreUnits, UnitsFault}
+use Rattle.stab_units.specs.ObjectUnits.{AreUnits, UnitsFault}
 use Rattle.stab_units.specs.declared.unit.Unit.{Unit}
 use Rattle.bincl_match.specs.declared.range.Grouping.{Grouping}
 use Rattle.bincl_match.specs.declared.range.RangeOf.{RangeOf}
@@ -31,8 +31,8 @@ use Rattle.aout_link.specs.Refusals.{list_fault}
 use Rattle.aout_link.specs.Sources.{HasUnits, IsLawful, Source}
 use Rattle.aout_link.specs.Tables.{entries_of, names_table}
 use Rattle.aout_link.specs.declared.linking.Image.{Image}
-use Rattle.aout_link.specs.declared.linking.Mode.{Mode}
-use Rattle.aout_link.specs.declared.linking.Mode.TheVariants.{Keep, Merge}
+use Rattle.bincl_match.specs.declared.mode.Mode.{Mode}
+use Rattle.bincl_match.specs.declared.mode.Mode.TheVariants.{Keep, Merge}
 use Rattle.aout_link.specs.declared.placed.Placed.{Placed}
 use Rattle.aout_link.proofs.MakingLemmas.{can_be_made, names-kept}
 use Rattle.aout_link.proofs.MergedLemmas.{can_merged}

@@ -9,7 +9,7 @@ use Rattle.reloc.specs.declared.reloc.Reloc.{Reloc}
 use Rattle.aout_object.specs.Objects.{Contents, ObjectFits, IsReloc, IsAccepted, all_named, named_of}
 use Rattle.aout_object.specs.Making.{HasWholeName}
 use Rattle.st_base.specs.declared.fault.Fault.{Fault}
-use Rattle.stab_units.specs.Worlds.{UnitsFault}
+use Rattle.stab_units.specs.ObjectUnits.{UnitsFault}
 use Rattle.aout_link.specs.Sources.{HasAcceptedKind, IsLawful}
 
 -- relocations that can be written have short fields
@@ -23,7 +23,7 @@ are_accepted strings [] h = tt
 are_accepted strings (e ∷ entries) h = (h.0.kind, are_accepted strings entries h.1)
 
 -- an object and its entries, named
-pub lawful_of : (o : Contents) (named : List Named) → named ≡ named_of o → All HasWholeName named → ObjectFits o → IsLawful (record { parts = o.parts; named = named })
+pub lawful_of : (o : Contents) (named : List Named) → named ≡ named_of o → All HasWholeName named → ObjectFits o → IsLawful (record { object = o; parts = o.parts; named = named })
 lawful_of o named is whole fits =
     let addresses = fits.header.addresses in
     let text = fits.numbers.text_relocs in

@@ -8,7 +8,7 @@ use Rattle.std.proofs.lemmas.List.Elements.{recursion_from_All}
 use Rattle.st_base.specs.Stabs.{is_stab}
 use Rattle.nlist_codec.specs.declared.named.Named.{Named}
 use Rattle.stab_units.specs.Joining.{IsAlike, AreAlike}
-use Rattle.stab_units.specs.Worlds.{AreUnits}
+use Rattle.stab_units.specs.ObjectUnits.{AreUnits}
 use Rattle.stab_units.specs.declared.unit.Unit.{Unit}
 use Rattle.bincl_match.specs.Ranges.{AreFound, AreFoundButUnits}
 use Rattle.bincl_match.specs.declared.range.RangeOf.{RangeOf}

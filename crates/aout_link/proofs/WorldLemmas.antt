@@ -13,8 +13,8 @@ use Rattle.bincl_match.specs.Ranges.{AreRanges}
 use Rattle.unit_index.specs.Expanding.{IsExpanded}
 use Rattle.header_merge.specs.Merged.{merged}
 use Rattle.aout_link.specs.Linking.{IsGroupingOf, KeepsWorld}
-use Rattle.aout_link.specs.declared.linking.Mode.{Mode}
-use Rattle.aout_link.specs.declared.linking.Mode.TheVariants.{Keep, Merge}
+use Rattle.bincl_match.specs.declared.mode.Mode.{Mode}
+use Rattle.bincl_match.specs.declared.mode.Mode.TheVariants.{Keep, Merge}
 
 -- by the laws of merging
 module _

@@ -6,6 +6,7 @@ use Rattle.st_base.specs.ByteOrder.{is_big}
 use Rattle.nlist_codec.specs.declared.named.Named.{Named}
 use Rattle.reloc.specs.declared.reloc.Reloc.{Reloc}
 use Rattle.reloc.specs.Sums.{bytes_in, bits_in, sum_fits, field_sum}
+use Rattle.nlist_codec.specs.declared.kinds.TheConstants.{BSS_EXTERNAL}
 use Rattle.aout_link.specs.Moves.{totals_of, starts_of, moves_of, fronts}
 use Rattle.aout_link.specs.Placing.{Frame, placed_entry, amount, relocated, text_frame, data_frame, bss_of}
 use Rattle.aout_link.specs.Refusals.{defines_again, is_lacking, is_lawful, has_other_order, has_other_machine}
@@ -46,7 +47,7 @@ pub record Accepted (base : ℕ) (os : List Source) : Type 0 where
 
 -- commons one behind the other from an address on, at their sums as they are
 abbrev pub exact_commons : ℕ → List (List ℕ × ℕ) → List (List ℕ × Known)
-exact_commons start sizes = map (λ p. (p.1.0, record { kind = 9; value = start + commons_total p.0 })) (fronts [] sizes)
+exact_commons start sizes = map (λ p. (p.1.0, record { kind = BSS_EXTERNAL; value = start + commons_total p.0 })) (fronts [] sizes)
 
 -- the commons of objects stand at their sums, without a remainder
 abbrev pub HasExactCommons : ℕ → List Source → Type 0

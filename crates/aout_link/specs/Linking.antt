@@ -21,8 +21,8 @@ use Rattle.aout_link.specs.Refusals.{list_fault}
 use Rattle.aout_link.specs.Making.{image_of, size_fault}
 use Rattle.aout_link.specs.declared.placed.Placed.{Placed}
 use Rattle.aout_link.specs.declared.linking.Image.{Image}
-use Rattle.aout_link.specs.declared.linking.Mode.{Mode}
-use Rattle.aout_link.specs.declared.linking.Mode.TheVariants.{Keep, Merge}
+use Rattle.bincl_match.specs.declared.mode.Mode.{Mode}
+use Rattle.bincl_match.specs.declared.mode.Mode.TheVariants.{Keep, Merge}
 
 -- ---- which ranges are kept
 

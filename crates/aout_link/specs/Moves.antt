@@ -1,7 +1,8 @@
 -- Where the segments of objects go, and how far they move. The text of all objects stands in order from the base address on, their
 -- data behind it, and their bss behind that; each part is padded to a multiple of 4. That parts are padded so is this project's own.
-use Rattle.std.specs.Prelude.{ℕ, ◌+◌, ◌-◌, ◌*◌, ◌/◌, ◌%◌, ◌^◌, List, [], ◌∷◌, ◌++◌, length, map}
+use Rattle.std.specs.Prelude.{ℕ, ◌+◌, ◌-◌, ◌%◌, ◌^◌, List, [], ◌∷◌, ◌++◌, length, map}
 use Rattle.std.specs.List.{sum_by}
+use Rattle.st_base.specs.Multiples.{aligned}
 use Rattle.aout_link.specs.Sources.{Source}
 use Rattle.aout_link.specs.declared.moves.Moves.{Moves}
 use Rattle.aout_link.specs.declared.moves.Starts.{Starts}
@@ -9,21 +10,17 @@ use Rattle.aout_link.specs.declared.moves.Totals.{Totals}
 
 -- ---- sizes
 
--- a size, padded to a multiple of 4
-abbrev pub padded : ℕ → ℕ
-padded n = (n + 3) / 4 * 4
-
 -- the bytes that the text of an object takes in the image
 abbrev pub text_size : Source → ℕ
-text_size o = padded (length o.parts.text)
+text_size o = aligned (length o.parts.text)
 
 -- those of its data
 abbrev pub data_size : Source → ℕ
-data_size o = padded (length o.parts.data_part)
+data_size o = aligned (length o.parts.data_part)
 
 -- those of its bss
 abbrev pub bss_size : Source → ℕ
-bss_size o = padded o.parts.bss
+bss_size o = aligned o.parts.bss
 
 -- those of all objects together
 abbrev pub totals_of : List Source → Totals

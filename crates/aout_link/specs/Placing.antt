@@ -7,11 +7,13 @@ use Rattle.nlist_codec.specs.declared.named.Named.{Named}
 use Rattle.reloc.specs.declared.reloc.Reloc.{Reloc}
 use Rattle.reloc.specs.Sums.{applied}
 use Rattle.stab_codes.specs.Segments.{segment_of_bits}
+use Rattle.nlist_codec.specs.declared.kinds.TheConstants.{UNDEFINED_EXTERNAL}
 use Rattle.aout_link.specs.Sources.{Source}
 use Rattle.aout_link.specs.declared.moves.Moves.{Moves}
 use Rattle.aout_link.specs.declared.definitions.Known.{Known}
 use Rattle.aout_link.specs.declared.placed.Placed.{Placed}
-use Rattle.aout_link.specs.Moves.{padded, totals_of, all_moves}
+use Rattle.st_base.specs.Multiples.{aligned}
+use Rattle.aout_link.specs.Moves.{totals_of, all_moves}
 use Rattle.aout_link.specs.Tables.{move_with, moved_value, known_by, common_sizes, commons_total, names_table}
 
 -- ---- entries
@@ -19,7 +21,7 @@ use Rattle.aout_link.specs.Tables.{move_with, moved_value, known_by, common_size
 -- the kind and value of an entry in the image: an undefined one takes those that its name stands for, all others move
 abbrev pub stands_for : List (List ℕ × Known) → Moves → Named → Known
 stands_for table m n =
-    if n.kind == 1 then unwrap_or (known_by n.name table) (record { kind = n.kind; value = n.value })
+    if n.kind == UNDEFINED_EXTERNAL then unwrap_or (known_by n.name table) (record { kind = n.kind; value = n.value })
     else record { kind = n.kind; value = moved_value m n }
 
 -- an entry with a kind and value
@@ -65,7 +67,7 @@ relocated big f segment rs = fold (λ bytes r. applied big bytes r (amount f r))
 
 -- the zero bytes behind so many, to a multiple of 4
 abbrev pub zeros_for : ℕ → List ℕ
-zeros_for size = replicate (padded size - size) 0
+zeros_for size = replicate (aligned size - size) 0
 
 -- what the relocations of an object's text depend on
 abbrev pub text_frame : Moves → List Named → Source → Frame

@@ -10,7 +10,7 @@ use Rattle.aout_link.specs.Refusals.{Refuses}
 use Rattle.aout_link.specs.Linking.{IsGroupingOf, IsImageOf, image_placed}
 use Rattle.aout_link.specs.declared.placed.Placed.{Placed}
 use Rattle.aout_link.specs.declared.linking.Image.{Image}
-use Rattle.aout_link.specs.declared.linking.Mode.{Mode}
+use Rattle.bincl_match.specs.declared.mode.Mode.{Mode}
 
 -- the ranges of these entries, grouped as the mode says
 pub record IsGrouped (mode : Mode) (end : ℕ) (entries : List Named) (g : Grouping) : Type 0 where

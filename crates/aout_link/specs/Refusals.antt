@@ -15,13 +15,15 @@ use Rattle.nlist_codec.specs.declared.named.Named.{Named}
 use Rattle.reloc.specs.declared.reloc.Reloc.{Reloc}
 use Rattle.reloc.specs.Sums.{bytes_in, bits_in, sum_fits, field_sum, applied}
 use Rattle.aout_object.specs.Decoding.{fault_or}
+use Rattle.nlist_codec.specs.declared.kinds.TheConstants.{UNDEFINED_EXTERNAL}
 use Rattle.aout_link.specs.Sources.{Source}
 use Rattle.aout_link.specs.declared.moves.Moves.{Moves}
 use Rattle.aout_link.specs.declared.moves.Totals.{Totals}
 use Rattle.aout_link.specs.declared.definitions.Known.{Known}
 use Rattle.aout_link.specs.declared.placed.Placed.{Placed}
 use Rattle.aout_link.specs.Moves.{totals_of, all_moves}
-use Rattle.aout_link.specs.Tables.{is_definition, defines, known_by, common_sizes, commons_total, names_table}
+use Rattle.nlist_codec.specs.Kinds.{defines_name}
+use Rattle.aout_link.specs.Tables.{defines, known_by, common_sizes, commons_total, names_table}
 use Rattle.aout_link.specs.Placing.{Frame, placed_entry, amount, text_frame, data_frame, IsPlaced}
 
 -- the fault with this number at a part of an object: the object's number, and within it the part's
@@ -62,7 +64,7 @@ machine_fault (o ∷ os) = first_that (has_other_machine o) MACHINE_MIX 0 (o ∷
 
 -- an entry defines a name that an earlier one defines
 abbrev pub defines_again : List Named → Named → Bool
-defines_again before n = is_definition n.kind && list_any (defines n.name) before
+defines_again before n = defines_name n.kind && list_any (defines n.name) before
 
 -- the first second definition among the entries of object k from entry j on, these entries standing before them
 abbrev pub twice_fault : List Named → ℕ → ℕ → List Named → Option Fault
@@ -76,7 +78,7 @@ twice_in before k (o ∷ os) = fault_or (twice_fault before k 0 o.named) (twice_
 
 -- an undefined entry whose name stands for nothing
 abbrev pub is_lacking : List (List ℕ × Known) → Named → Bool
-is_lacking table n = n.kind == 1 && n.value == 0 && not (is_some (known_by n.name table))
+is_lacking table n = n.kind == UNDEFINED_EXTERNAL && n.value == 0 && not (is_some (known_by n.name table))
 
 -- the first of them among the entries of object k from entry j on
 abbrev pub undefined_fault : List (List ℕ × Known) → ℕ → ℕ → List Named → Option Fault

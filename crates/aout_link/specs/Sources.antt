@@ -4,13 +4,14 @@ use Rattle.std.specs.List.{AllByRecursion}
 use Rattle.nlist_codec.specs.declared.named.Named.{Named}
 use Rattle.aout_layout.specs.declared.header.TheConstants.{TWO_ORDERS}
 use Rattle.aout_object.specs.declared.parts.Parts.{Parts}
-use Rattle.aout_object.specs.Objects.{is_accepted_kind}
+use Rattle.aout_object.specs.Objects.{Contents, is_accepted_kind}
 use Rattle.aout_object.specs.Making.{HasWholeName}
 use Rattle.stab_units.specs.declared.unit.Unit.{Unit}
-use Rattle.stab_units.specs.Worlds.{AreUnits}
+use Rattle.stab_units.specs.ObjectUnits.{AreUnits}
 
--- an object: its segments with their relocations, and its entries with their names, in order
+-- an object as it was given, its segments with their relocations, and its entries with their names, in order
 pub record Source : Type 0 where
+  pub object : Contents
   pub parts : Parts
   pub named : List Named
 

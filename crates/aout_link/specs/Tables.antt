@@ -11,7 +11,11 @@ use Rattle.nlist_codec.specs.declared.named.Named.{Named}
 use Rattle.aout_link.specs.Sources.{Source}
 use Rattle.aout_link.specs.declared.moves.Moves.{Moves}
 use Rattle.aout_link.specs.declared.definitions.Known.{Known}
-use Rattle.aout_link.specs.Moves.{padded, fronts, totals_of, starts_of, all_moves}
+use Rattle.st_base.specs.Multiples.{aligned}
+use Rattle.st_base.specs.FirstUses.{used, first_uses as first_uses_by}
+use Rattle.nlist_codec.specs.Kinds.{defines_name}
+use Rattle.nlist_codec.specs.declared.kinds.TheConstants.{UNDEFINED_EXTERNAL, BSS_EXTERNAL}
+use Rattle.aout_link.specs.Moves.{fronts, totals_of, starts_of, all_moves}
 
 -- ---- entries
 
@@ -19,17 +23,13 @@ use Rattle.aout_link.specs.Moves.{padded, fronts, totals_of, starts_of, all_move
 abbrev pub entries_of : List Source → List Named
 entries_of os = flat_map (λ o. o.named) os
 
--- the kinds of definitions: external, and absolute or in text, data or bss
-abbrev pub is_definition : ℕ → Bool
-is_definition kind = kind == 3 || kind == 5 || kind == 7 || kind == 9
-
 -- an entry defines a name
 abbrev pub defines : List ℕ → Named → Bool
-defines name n = is_definition n.kind && bytes_eq name n.name
+defines name n = defines_name n.kind && bytes_eq name n.name
 
 -- an entry asks for a common
 abbrev pub is_common : Named → Bool
-is_common n = n.kind == 1 && not (n.value == 0)
+is_common n = n.kind == UNDEFINED_EXTERNAL && not (n.value == 0)
 
 -- ---- moved entries
 
@@ -61,7 +61,7 @@ known_of n = (n.name, record { kind = n.kind; value = n.value })
 
 -- the definitions among entries, in order
 abbrev pub definitions : List Named → List (List ℕ × Known)
-definitions ns = map known_of (filter (λ n. is_definition n.kind) ns)
+definitions ns = map known_of (filter (λ n. defines_name n.kind) ns)
 
 -- what a name stands for
 abbrev pub known_by : {X : Type 0} → List ℕ → List (List ℕ × X) → Option X
@@ -73,13 +73,12 @@ known_by name table = lookup (bytes_eq name) table
 abbrev pub commons_among : List Named → List Named → List Named
 commons_among all ns = filter (λ n. is_common n && not (list_any (defines n.name) all)) ns
 
--- names after one is used: one that is there changes nothing, a new one goes last
+-- names after one is used, and the distinct names of uses, in order of first use
 abbrev pub added : List (List ℕ) → List ℕ → List (List ℕ)
-added names name = if list_any (bytes_eq name) names then names else names ++ name ∷ []
+added names name = used bytes_eq names name
 
--- the distinct names of uses, in order of first use
 abbrev pub first_uses : List (List ℕ) → List (List ℕ)
-first_uses uses = fold added [] uses
+first_uses uses = first_uses_by bytes_eq uses
 
 -- the names of entries
 abbrev pub names_of : List Named → List (List ℕ)
@@ -100,11 +99,11 @@ common_sizes os = sizes_of (commons_among (entries_of os) (entries_of os))
 
 -- the padded sizes of commons together
 abbrev pub commons_total : List (List ℕ × ℕ) → ℕ
-commons_total sizes = sum_by (λ e. padded e.1) sizes
+commons_total sizes = sum_by (λ e. aligned e.1) sizes
 
 -- the place of a common behind others, as a definition in bss
 abbrev pub common_at : ℕ → List (List ℕ × ℕ) → Known
-common_at start before = record { kind = 9; value = (start + commons_total before) % 2 ^ 32 }
+common_at start before = record { kind = BSS_EXTERNAL; value = (start + commons_total before) % 2 ^ 32 }
 
 -- commons one behind the other, from an address on
 abbrev pub placed_commons : ℕ → List (List ℕ × ℕ) → List (List ℕ × Known)

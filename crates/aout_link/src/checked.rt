@@ -2,12 +2,12 @@ ghost use Rattle.std.specs.Prelude.{◌≡◌, ◌+◌, ◌<◌, ◌^◌, length
 ghost use Rattle.st_base.specs.declared.fault.Fault.{Fault};
 ghost use Rattle.st_base.specs.declared.fault.Refused.{Refused};
 ghost use Rattle.aout_object.specs.Objects.{named_of};
-ghost use Rattle.stab_units.specs.Worlds.{UnitsFault, strings_in};
+ghost use Rattle.stab_units.specs.ObjectUnits.{UnitsFault, strings_in};
 ghost use Rattle.bincl_match.specs.Ranges.{AreFound};
 ghost use Rattle.aout_link.specs.Sources.{IsLawful, HasUnits, text_end};
 
 use aout_object::{Object, Parts};
-use bincl_match::{RangeOf, find_ranges};
+use bincl_match::{Found, find_ranges};
 use nlist_codec::Named;
 use st_base::{List, Memory, Refused, Steps};
 use std::alloc::Global;
@@ -20,7 +20,7 @@ use std::sync::ledger::Ledger;
 pub struct Checked {
     object: Object,
     named: List<Named>,
-    ranges: List<RangeOf>,
+    ranges: Found,
 }
 
 impl Model for Checked {
@@ -31,16 +31,16 @@ impl Model for Checked {
 
     ghost Value = { Source };
 
-    ghost view = { λ s. record { parts = s.object.parts; named = s.named } };
+    ghost view = { λ s. record { object = s.object; parts = s.object.parts; named = s.named } };
 
-    ghost invariant = { λ s. (s.named ≡ named_of s.object) × IsLawful (record { parts = s.object.parts; named = s.named })
-        × AreFound (text_end (record { parts = s.object.parts; named = s.named })) s.named s.ranges };
+    ghost invariant = { λ s. (s.named ≡ named_of s.object) × IsLawful (record { object = s.object; parts = s.object.parts; named = s.named })
+        × AreFound (text_end (record { object = s.object; parts = s.object.parts; named = s.named })) s.named s.ranges };
 }
 
 // The entries of an object with their names. That an object has fewer than 2^32 of them is said by its parts.
 fn entries_of(alloc: Global, object: &Object) -> Result<List<Named>, Memory>
     ensures value { IfOk result (λ named. named ≡ named_of object.now) }
-    ensures lawful { IfOk result (λ named. IsLawful (record { parts = object.now.parts; named = named })) }
+    ensures lawful { IfOk result (λ named. IsLawful (record { object = object.now; parts = object.now.parts; named = named })) }
     ensures few { IfOk result (λ named. length named < 2 ^ 32) }
 {
     let named = object.named(alloc)?;
@@ -61,6 +61,7 @@ impl Checked {
         object: Object,
         steps: &mut Steps<L>,
     ) -> Result<Checked, Refused>
+        ensures object { IfOk result (λ s. s.object ≡ object) }
         ensures parts { IfOk result (λ s. s.parts ≡ object.parts) }
         ensures named { IfOk result (λ s. s.named ≡ named_of object) }
         ensures units { IfOk result HasUnits }
@@ -80,8 +81,9 @@ impl Checked {
         }
     }
 
-    /// The object.
+    /// The object that was given.
     pub fn object(&self) -> &Object
+        ensures given { result.now ≡ self.now.object }
         ensures parts { result.now.parts ≡ self.now.parts }
         ensures named { named_of result.now ≡ self.now.named }
     {
@@ -97,7 +99,7 @@ impl Checked {
 
     /// The header ranges of the object, as they were found when it was checked: unit by unit, and in a unit by the numbers of the files.
     /// Each is a candidate as far as its own entries go, whatever other ranges are like it. Takes no memory.
-    pub fn ranges(&self) -> &List<RangeOf>
+    pub fn ranges(&self) -> &Found
         ensures { AreFound (text_end self.now) self.now.named result.now }
     {
         &self.ranges

@@ -9,7 +9,7 @@ use crate::checked::Checked;
 use crate::definitions::{Known, define, find};
 use crate::moves::{low, padded};
 use indexmap::IndexMap;
-use nlist_codec::Named;
+use nlist_codec::{BSS_EXTERNAL, Named, UNDEFINED_EXTERNAL};
 use st_base::Memory;
 use std::alloc::Global;
 
@@ -17,7 +17,7 @@ use std::alloc::Global;
 fn is_common(entry: &Named) -> bool
     ensures { result ≡ spec.is_common entry.now }
 {
-    entry.kind == 1 && entry.value != 0
+    entry.kind == UNDEFINED_EXTERNAL && entry.value != 0
 }
 
 // The size noted for a common, else 0.
@@ -96,7 +96,7 @@ pub fn place_commons<'a>(
     for at in 0..sizes.len() {
         let (name, size) = sizes.get_index(at).unwrap();
         let known = Known {
-            kind: 9,
+            kind: BSS_EXTERNAL,
             value: low(start + total),
         };
         define(table, name, known)?;

@@ -8,7 +8,7 @@ use crate::checked::Checked;
 use crate::moves::Moves;
 use crate::refusals::fault_in;
 use indexmap::IndexMap;
-use nlist_codec::Named;
+use nlist_codec::{Named, defines_name};
 use st_base::{Memory, Refused, TWICE};
 use stab_codes::{Segment, segment_of};
 use std::alloc::Global;
@@ -39,13 +39,6 @@ pub fn moved_value(moves: &Moves, entry: &Named) -> u32
     entry
         .value
         .wrapping_add(move_with(moves, segment_of(entry.kind)))
-}
-
-// Whether entries of a kind define their names.
-fn is_definition(kind: u8) -> bool
-    ensures { result ≡ spec.is_definition kind }
-{
-    kind == 3 || kind == 5 || kind == 7 || kind == 9
 }
 
 /// What a name stands for.
@@ -82,7 +75,7 @@ fn define_all<'a>(
         → Defines before object moves.now named.now result (listed table.old.entries) (listed table.new.entries) }
 {
     for (at, entry) in named.iter().enumerate() {
-        if !is_definition(entry.kind) {
+        if !defines_name(entry.kind) {
             continue;
         }
         let known = Known {

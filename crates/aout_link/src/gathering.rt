@@ -4,12 +4,12 @@ ghost use Rattle.std.specs.Prelude.{◌≡◌, ◌++◌, IfOk, OnOk};
 ghost use Rattle.aout_link.specs.Gathering.{AreAllFound};
 
 use crate::checked::Checked;
-use bincl_match::RangeOf;
-use st_base::{List, Memory};
+use bincl_match::{Found, RangeOf};
+use st_base::Memory;
 use std::alloc::Global;
 
 // Puts copies of ranges behind those that are there.
-fn put_copies(alloc: Global, out: &mut List<RangeOf>, ranges: &[RangeOf]) -> Result<(), Memory>
+fn put_copies(alloc: Global, out: &mut Found, ranges: &[RangeOf]) -> Result<(), Memory>
     ensures { OnOk result (out.new ≡ out.old ++ ranges.now) }
 {
     for range in ranges {
@@ -21,10 +21,10 @@ fn put_copies(alloc: Global, out: &mut List<RangeOf>, ranges: &[RangeOf]) -> Res
 
 /// Copies of the ranges of all objects in order, those of each as they were found. Takes memory for the copies; out of memory is the one
 /// refusal.
-pub(crate) fn gather(alloc: Global, objects: &[Checked]) -> Result<List<RangeOf>, Memory>
+pub(crate) fn gather(alloc: Global, objects: &[Checked]) -> Result<Found, Memory>
     ensures { IfOk result (λ ranges. AreAllFound objects.now ranges) }
 {
-    let mut out = List::new(alloc);
+    let mut out = Found::new(alloc);
     for object in objects {
         let ranges = object.ranges();
         put_copies(alloc, &mut out, ranges.items())?;

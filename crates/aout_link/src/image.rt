@@ -8,13 +8,19 @@ use aout_object::{Object, Parts};
 use st_base::{List, Refused};
 use std::alloc::Global;
 
-/// The object of what is placed: its segments without relocations, its entries in order, and each distinct name once in the string
+/// What is placed of a list of objects, with the entries of its image: header ranges are merged.
+#[derive(Debug, Drop)]
+pub(crate) struct Merged {
+    pub(crate) image: Placed,
+}
+
+/// The object of what is placed and merged: its segments without relocations, its entries in order, and each distinct name once in the string
 /// table. Refused with `TOO_LARGE` and place 134,217,728 where its file would have more bytes; out of memory is an answer of its own.
 /// The condition is one that `place_objects` ensures, and that holds while names, kinds and segments stay as they are.
-pub fn make_image(alloc: Global, placed: Placed) -> Result<Object, Refused>
-    requires { CanBeMade placed }
-    ensures made { Answers result (size_fault placed) (image_of placed) }
-    ensures named { IfOk result (λ o. named_of o ≡ placed.named) }
+pub(crate) fn make_image(alloc: Global, merged: Merged) -> Result<Object, Refused>
+    requires { CanBeMade merged.image }
+    ensures made { Answers result (size_fault merged.image) (image_of merged.image) }
+    ensures named { IfOk result (λ o. named_of o ≡ merged.image.named) }
 {
     let Placed {
         order,
@@ -24,7 +30,7 @@ pub fn make_image(alloc: Global, placed: Placed) -> Result<Object, Refused>
         data_part,
         bss,
         named,
-    } = placed;
+    } = merged.image;
     let parts = Parts {
         order,
         machine,

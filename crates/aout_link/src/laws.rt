@@ -7,7 +7,8 @@ ghost use Rattle.aout_link.specs.Sources.{Source as SourceValue, IsLawful, HasUn
 ghost use Rattle.aout_link.specs.declared.moves.Moves.{Moves as MovesValue};
 ghost use Rattle.aout_link.specs.declared.definitions.Known.{Known as KnownValue};
 ghost use Rattle.aout_link.specs.declared.moves.Starts.{Starts as StartsValue};
-ghost use Rattle.aout_link.specs.Moves.{padded, totals_of, all_moves, starts_of};
+ghost use Rattle.st_base.specs.Multiples.{aligned};
+ghost use Rattle.aout_link.specs.Moves.{totals_of, all_moves, starts_of};
 ghost use Rattle.aout_link.specs.Groups.{InGroups, AreWords, MovesAtOnce, EntriesAtOnce};
 ghost use Rattle.aout_link.specs.Placing.{Frame as FrameValue};
 ghost use Rattle.aout_link.specs.Refusals.{list_fault, first_that, twice_fault, twice_in, undefined_fault, undefined_in, relocs_fault, relocs_in};
@@ -17,7 +18,7 @@ ghost use Rattle.aout_link.specs.First.{HasFirst, stages, stage_fault, differenc
 ghost use Rattle.aout_link.specs.Tables.{entries_of};
 ghost use Rattle.aout_link.specs.Linking.{IsLinked, RefusesLink};
 ghost use Rattle.aout_link.specs.declared.linking.Image.{Image as ImageValue};
-ghost use Rattle.aout_link.specs.declared.linking.Mode.{Mode};
+ghost use Rattle.bincl_match.specs.declared.mode.Mode.{Mode};
 
 use bincl_match::{merging_laws, one_alone, one_classes, one_ranges};
 use header_merge::merged_world;
@@ -58,7 +59,7 @@ pub fn group_laws()
         → AreWords (starts_of base group) → MovesAtOnce base group s out before o }
     ensures entries { (base : ℕ) (group : List SourceValue) (s : StartsValue) (out : List SourceValue)
         → AreWords (starts_of base group) → EntriesAtOnce base group s out }
-    ensures sizes { (os : List SourceValue) → padded (totals_of os).text ≡ (totals_of os).text }
+    ensures sizes { (os : List SourceValue) → aligned (totals_of os).text ≡ (totals_of os).text }
 {}
 
 /// A list of objects that have units, with fewer than 2^32 entries together, either has exactly one image, for which no step is taken, or

@@ -21,8 +21,8 @@ mod placing;
 mod refusals;
 mod relocating;
 
+pub use bincl_match::Mode;
 pub use checked::Checked;
-pub use image::make_image;
 pub use laws::{accepted_laws, first_laws, group_laws, one_link};
-pub use linking::{Image, Mode, link};
+pub use linking::{Image, link};
 pub use placed::{Placed, place_objects};

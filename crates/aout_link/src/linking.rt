@@ -27,27 +27,18 @@ ghost use Rattle.aout_link.specs.Planning.{IsGrouped, Makes};
 
 use crate::checked::Checked;
 use crate::gathering::gather;
-use crate::image::make_image;
+use crate::image::{Merged, make_image};
 use crate::placed::{Placed, place_objects};
 use aout_object::Object;
 use bincl_match::{
-    Grouping, RangeOf, alone, classes, found_laws, join_ranges, merging_laws, one_ranges,
+    Found, Grouping, Mode, RangeOf, alone, classes, found_laws, join_ranges, merging_laws,
+    one_ranges,
 };
 use header_merge::{merge_headers, merged_world};
 use nlist_codec::Named;
 use st_base::{List, Memory, Refused, Steps};
 use std::alloc::Global;
 use std::sync::ledger::Ledger;
-
-/// Which header ranges an image keeps.
-#[derive(Clone, Copy, Debug, Drop, PartialEq, Eq)]
-pub enum Mode {
-    /// Every range, each with an instance of its own.
-    Keep,
-    /// The first of each class: of the ranges of several units that have one name and the same types, each type number naming the same
-    /// type in its own unit.
-    Merge,
-}
 
 /// An image, and how many header ranges it has.
 #[derive(Debug, Drop)]
@@ -93,7 +84,7 @@ fn group(
     alloc: Global,
     entries: &List<Named>,
     end: u32,
-    found: List<RangeOf>,
+    found: Found,
     mode: Mode,
 ) -> Result<Grouping, Memory>
     requires few { length entries.now < 2 ^ 32 }
@@ -173,13 +164,13 @@ fn count_kept(kept: &[u32]) -> u32
     count
 }
 
-// What is placed, with the entries of the image.
-fn merge(alloc: Global, placed: Placed, grouping: &Grouping) -> Result<Placed, Memory>
-    ensures { IfOk result (λ image. image ≡ image_placed grouping.now placed) }
+// What is placed, with the entries of the image in place of the placed ones.
+fn merge(alloc: Global, placed: Placed, grouping: &Grouping) -> Result<Merged, Memory>
+    ensures { IfOk result (λ merged. merged.image ≡ image_placed grouping.now placed) }
 {
     let mut image = placed;
     image.named = merge_headers(alloc, image.named, grouping)?;
-    Ok(image)
+    Ok(Merged { image })
 }
 
 // The image of what is placed, whose ranges are grouped so.

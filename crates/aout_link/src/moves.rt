@@ -1,10 +1,11 @@
 ghost use Rattle.std.specs.Prelude.{◌≡◌, ◌<◌, ◌≤◌, ◌^◌, ◌%◌, ◌+◌, length, IfOk};
+ghost use Rattle.st_base.specs.Multiples.{aligned};
 ghost use Rattle.aout_link.specs.Moves as spec;
 ghost use Rattle.aout_link.specs.Moves.{totals_of, starts_of, all_moves};
 ghost use Rattle.aout_link.specs.Answering.{AreSmall, wrapped_behind};
 
 use crate::checked::Checked;
-use st_base::{List, Memory};
+use st_base::{List, Memory, aligned as multiple_of_four};
 use std::alloc::Global;
 
 /// The bytes that text, data and bss of all objects take together, each part padded to a multiple of 4.
@@ -34,10 +35,10 @@ pub struct Moves {
 /// A size, padded to a multiple of 4.
 pub fn padded(size: u64) -> u64
     requires { size < 2 ^ 32 }
-    ensures value { result ≡ spec.padded size }
+    ensures value { result ≡ aligned size }
     ensures small { result ≤ 2 ^ 32 }
 {
-    (size + 3) / 4 * 4
+    multiple_of_four(size as u128) as u64
 }
 
 /// The remainder of a number modulo 2^32.

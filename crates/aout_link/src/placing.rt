@@ -8,7 +8,7 @@ use crate::definitions::{Known, find, moved_value};
 use crate::moves::Moves;
 use crate::refusals::fault_in;
 use indexmap::IndexMap;
-use nlist_codec::Named;
+use nlist_codec::{Named, UNDEFINED_EXTERNAL};
 use st_base::{List, Memory, Refused, UNDEFINED};
 use std::alloc::Global;
 
@@ -17,7 +17,7 @@ fn resolve(table: &IndexMap<&[u8], Known>, moves: &Moves, entry: &Named) -> Opti
     ensures { result ≡ (if is_lacking (listed table.now.entries) entry.now then None
         else Some (spec.stands_for (listed table.now.entries) moves.now entry.now)) }
 {
-    if entry.kind != 1 {
+    if entry.kind != UNDEFINED_EXTERNAL {
         return Some(Known {
             kind: entry.kind,
             value: moved_value(moves, entry),

@@ -4,7 +4,7 @@ ghost use Rattle.st_base.specs.Faults.{checked, unless};
 ghost use Rattle.st_base.specs.declared.fault.Refused.TheVariants as refused;
 ghost use Rattle.reloc.specs.Sums.{applied, bytes_in};
 ghost use Rattle.stab_codes.specs.Segments.{segment_of_bits};
-ghost use Rattle.aout_link.specs.Moves as spec_moves;
+ghost use Rattle.st_base.specs.Multiples.{aligned};
 ghost use Rattle.aout_link.specs.Tables as tables;
 ghost use Rattle.aout_link.specs.Placing as spec;
 ghost use Rattle.aout_link.specs.Refusals as refusals;
@@ -177,7 +177,7 @@ const ZEROS: [u8; 3] = [0; 3];
 // Appends zero bytes behind so many, to a multiple of 4.
 fn pad(out: &mut Text, size: usize) -> Result<(), Refused>
     requires { size < 2 ^ 32 }
-    ensures { MatchResult result (λ done. out.new ≡ out.old ++ replicate (spec_moves.padded size - size) 0) (λ why. why ≡ refused.Memory) }
+    ensures { MatchResult result (λ done. out.new ≡ out.old ++ replicate (aligned size - size) 0) (λ why. why ≡ refused.Memory) }
 {
     let zeros = padded(size as u64) as usize - size;
     out.extend(&ZEROS[..zeros])?;

@@ -1,4 +1,4 @@
--- Where the names of a string table end: an offset before that place has a name behind it that a zero byte ends, and none other has.
+-- Where the names of a string table end: an offset before that place has a name after it that a zero byte ends, and none other has.
 use Rattle.std.proofs.Common.{◌≡◌, ◌≢◌, ◌∙◌, ℕ, ◌+◌, ◌-◌, ◌<◌, ◌≤◌, Bool, true, not, List, length, drop, get_or, refl, sym, ap, arith, inl, inr, length-drop}
 use Rattle.std.specs.Prelude.{Option, Some, None, nat_lt, position, cond}
 use Rattle.std.specs.List.{position_or_len}
@@ -13,7 +13,7 @@ use Rattle.aout_object.specs.Decoding.{EndsNames, end_fault, fault_unless}
 
 -- ---- zero bytes
 
--- where the first zero byte is told to be nowhere, no byte is zero
+-- where there is no first zero byte, no byte is zero
 nowhere : (bytes : List ℕ) (at : ℕ) → position is_zero bytes ≡ None → at < length bytes → get_or bytes at 0 ≢ 0
 nowhere bytes at none within zero =
     elim (cases_Bool (nat_lt (position_or_len is_zero bytes) (length bytes))) [
@@ -27,7 +27,7 @@ nowhere bytes at none within zero =
 -- ---- the end of names
 
 module _ (strings : List ℕ) (end : ℕ) (ends : EndsNames strings end) where
-  -- a zero byte behind an offset stands before the end
+  -- a zero byte after an offset stands before the end
   before_end : (strx at : ℕ) → position is_zero (drop strx strings) ≡ Some at → strx < end
   before_end strx at first =
       let told = position-Some is_zero (drop strx strings) at 0 first in
@@ -37,7 +37,7 @@ module _ (strings : List ℕ) (end : ℕ) (ends : EndsNames strings end) where
         | inr behind ↦ absurd (ends.none_behind (strx + at) (omega (arith, ltb-false _ _ behind)) (omega (arith, told.0, length-drop strx strings)) zero)
       ]
 
-  -- where none is behind an offset, the offset is not before the end
+  -- where none is after an offset, the offset is not before the end
   behind_end : (strx : ℕ) → position is_zero (drop strx strings) ≡ None → end ≤ strx
   behind_end strx none =
       elim (cases_Bool (nat_lt strx end)) [
@@ -50,7 +50,7 @@ module _ (strings : List ℕ) (end : ℕ) (ends : EndsNames strings end) where
         | inr behind ↦ ltb-false _ _ behind
       ]
 
-  -- the fault of a name's end, by where the first zero byte behind it is
+  -- the fault of a name's end, by where the first zero byte after it is
   fault_by : (strx place : ℕ) (found : Option ℕ) → position is_zero (drop strx strings) ≡ found → end_fault place found ≡ fault_unless (nat_lt strx end) NO_END place
   fault_by strx place None none = rw (le-ltb strx end (behind_end strx none)) refl
   fault_by strx place (Some at) first = rw (lt-ltb strx end (before_end strx at first)) refl

@@ -18,7 +18,7 @@ bare = 7 ∷ 1 ∷ 100 ∷ 0 ∷ 0 ∷ 0 ∷ 0 ∷ 0 ∷ 0 ∷ 0 ∷ 0 ∷ 0 ∷
 bare-fault : first_fault (file_checks bare) ≡ None
 bare-fault = refl
 
--- a byte behind it begins one
+-- a byte after it begins one
 bare-longer : first_fault (file_checks (bare ++ 4 ∷ [])) ≡ Some (fault_at 5 33)
 bare-longer = refl
 
@@ -26,7 +26,7 @@ bare-longer = refl
 bare-table : first_fault (file_checks (bare ++ 4 ∷ 0 ∷ 0 ∷ 0 ∷ [])) ≡ None
 bare-table = refl
 
--- its first word in the order that can't be told
+-- its first word where the order is not known
 bare-orders : first_fault (file_checks (7 ∷ 1 ∷ 1 ∷ 7 ∷ [])) ≡ Some (fault_at 5 4)
 bare-orders = refl
 
@@ -45,7 +45,7 @@ abbrev little_header : List ℕ
 little_header =
     7 ∷ 1 ∷ 100 ∷ 0 ∷ 2 ∷ 0 ∷ 0 ∷ 0 ∷ 0 ∷ 0 ∷ 0 ∷ 0 ∷ 8 ∷ 0 ∷ 0 ∷ 0 ∷ 12 ∷ 0 ∷ 0 ∷ 0 ∷ 0 ∷ 16 ∷ 0 ∷ 0 ∷ 0 ∷ 0 ∷ 0 ∷ 0 ∷ 0 ∷ 0 ∷ 0 ∷ 0 ∷ []
 
--- text, the entry and the string table behind it
+-- text, the entry and the string table after it
 abbrev little_behind : List ℕ
 little_behind = 1 ∷ 2 ∷ 4 ∷ 0 ∷ 0 ∷ 0 ∷ 0x64 ∷ 0 ∷ 0 ∷ 0 ∷ 0 ∷ 16 ∷ 0 ∷ 0 ∷ 8 ∷ 0 ∷ 0 ∷ 0 ∷ 97 ∷ 46 ∷ 99 ∷ 0 ∷ []
 
@@ -65,11 +65,11 @@ small-short = refl
 small-long : first_fault (file_checks (little_header ++ (little_behind ++ 0 ∷ []))) ≡ Some (fault_at 6 54)
 small-long = refl
 
--- a name that begins in the length word, behind a kind that is accepted
+-- a name that begins in the length word, after a kind that is accepted
 small-inside : first_fault (file_checks (little_header ++ 1 ∷ 2 ∷ 3 ∷ 0 ∷ 0 ∷ 0 ∷ 0x64 ∷ 0 ∷ 0 ∷ 0 ∷ 0 ∷ 16 ∷ 0 ∷ 0 ∷ 8 ∷ 0 ∷ 0 ∷ 0 ∷ 97 ∷ 46 ∷ 99 ∷ 0 ∷ [])) ≡ Some (fault_at 11 0)
 small-inside = refl
 
--- the same name behind a kind that is not
+-- the same name after a kind that is not
 small-kind : first_fault (file_checks (little_header ++ 1 ∷ 2 ∷ 3 ∷ 0 ∷ 0 ∷ 0 ∷ 10 ∷ 0 ∷ 0 ∷ 0 ∷ 0 ∷ 16 ∷ 0 ∷ 0 ∷ 8 ∷ 0 ∷ 0 ∷ 0 ∷ 97 ∷ 46 ∷ 99 ∷ 0 ∷ [])) ≡ Some (fault_at 30 0)
 small-kind = refl
 

@@ -199,7 +199,7 @@ module _ (bytes : List ℕ) (h : Header) (are_bytes : IsBytes bytes) (has : head
     table = table_stands;
   }
 
-  -- what stands behind the header, in sequence
+  -- what stands after the header, in sequence
   in_sequence : drop HEADER_SIZE bytes ≡ behind_header (is_big h.order) (contents_in h bytes)
   in_sequence =
       part-then bytes HEADER_SIZE h.text _ _ refl

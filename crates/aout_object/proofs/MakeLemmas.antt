@@ -65,7 +65,7 @@ size_of-uses (name ∷ uses) names =
     let rest = size_of-uses uses (added names name) in
     omega (arith, first, rest)
 
--- a list is what stands before an item, the item, and what stands behind it
+-- a list is what stands before an item, the item, and what stands after it
 at_item : {X : Type 0} (xs : List X) (i : ℕ) (d : X) → i < length xs → xs ≡ (take i xs ++ get_or xs i d ∷ []) ++ drop (i + 1) xs
 at_item xs i d within = sym (take-append-drop (i + 1) xs) ∙ ap (λ (x : List _). x ++ drop (i + 1) xs) (take_more xs i d within)
 
@@ -256,7 +256,7 @@ named-answered parts named (Err why) fault whole told = tt
 -- ---- the checks in their order
 
 module _ (parts : Parts) (named : List Named) where
-  -- those behind the kinds
+  -- those after the kinds
   abbrev size_checks : List Check
   size_checks = size_check (length (file_of (made parts named))) ∷ []
 
@@ -266,7 +266,7 @@ module _ (parts : Parts) (named : List Named) where
       first_fault-append (kinds_checks 0 named) (addresses_check parts ∷ size_checks)
       ∙ ap (fault_or (first_fault (kinds_checks 0 named))) (first_fault-append (addresses_check parts ∷ []) size_checks)
 
-  -- a kind that is not accepted is told first
+  -- a kind that is not accepted is reported first
   pub make-kinds : (fault : Fault) → first_fault (kinds_checks 0 named) ≡ Some fault → first_fault (make_checks parts named) ≡ Some fault
   make-kinds fault found =
       make_checks-fault ∙ ap (λ (f : Option Fault). fault_or f (fault_or (first_fault (addresses_check parts ∷ [])) (first_fault size_checks))) found

@@ -9,7 +9,7 @@ use Rattle.aout_object.specs.Checks.{part}
 pub length-part : (bytes : List ℕ) (at size : ℕ) → at + size ≤ length bytes → length (part bytes at size) ≡ size
 length-part bytes at size within = length-take-le size (drop at bytes) (let behind = length-drop at bytes in omega (arith, behind, within))
 
--- a part and what stands behind it
+-- a part and what stands after it
 pub part-then : (bytes : List ℕ) (at size : ℕ) (here rest : List ℕ) → here ≡ part bytes at size → drop (at + size) bytes ≡ rest → drop at bytes ≡ here ++ rest
 part-then bytes at size here rest is behind =
     sym (take-append-drop size (drop at bytes))
@@ -22,6 +22,6 @@ part-then bytes at size here rest is behind =
 pub part-here : (bytes : List ℕ) (at size : ℕ) (here rest : List ℕ) → drop at bytes ≡ here ++ rest → length here ≡ size → part bytes at size ≡ here
 part-here bytes at size here rest is length_is = ap (take size) is ∙ take_at here rest size length_is
 
--- what stands behind it
+-- what stands after it
 pub drop-part : (bytes : List ℕ) (at size : ℕ) (here rest : List ℕ) → drop at bytes ≡ here ++ rest → length here ≡ size → drop (at + size) bytes ≡ rest
 drop-part bytes at size here rest is length_is = sym (drop-drop size at bytes) ∙ ap (drop size) is ∙ drop_at here rest size length_is

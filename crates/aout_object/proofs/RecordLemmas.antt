@@ -75,7 +75,7 @@ length-reloc_bytes big r = refl
 first_piece : (n k : ℕ) (bytes : List ℕ) → length bytes ≡ suc k * n → length (take n bytes) ≡ n
 first_piece n k bytes whole = length-take-le n bytes (omega (arith, whole))
 
--- and those behind it
+-- and those after it
 other_pieces : (n k : ℕ) (bytes : List ℕ) → length bytes ≡ suc k * n → length (drop n bytes) ≡ k * n
 other_pieces n k bytes whole = let behind = length-drop n bytes in omega (arith, behind, whole)
 

@@ -82,7 +82,7 @@ module _ (o : Contents) (bytes : List ℕ) (are_bytes : IsBytes bytes) (spells :
   front_is : take HEADER_SIZE bytes ≡ header_bytes h
   front_is = ap (take HEADER_SIZE) spells.sequence ∙ take_at (header_bytes h) (behind_header big o) HEADER_SIZE refl
 
-  -- the parts stand behind it
+  -- the parts stand after it
   text_behind : drop HEADER_SIZE bytes ≡ behind_header big o
   text_behind = ap (drop HEADER_SIZE) spells.sequence ∙ drop_at (header_bytes h) (behind_header big o) HEADER_SIZE refl
 

@@ -18,7 +18,7 @@ use Rattle.aout_object.specs.Objects.{is_accepted_kind}
 use Rattle.aout_object.specs.Checks.{reloc_pieces, text_relocs_part, data_relocs_part, entries_part, strings_part, at_place, relocs_checks, entry_checks, entries_checks, place_checks, record_checks, header_at_front, file_checks, FileFault}
 use Rattle.aout_object.specs.Decoding.{fault_or, fault_unless, fault_of, relocs_fault, end_fault, entry_fault, entries_fault, all_relocs_fault, records_fault, fault_behind, file_fault}
 
--- ---- one check behind another
+-- ---- one check after another
 
 -- a check before others
 before : (test : Bool) (fault : Fault) (whole first later : Option Fault) → whole ≡ fault_or first later
@@ -26,7 +26,7 @@ before : (test : Bool) (fault : Fault) (whole first later : Option Fault) → wh
 before true fault whole first later is = is
 before false fault whole first later is = refl
 
--- the fault of checks behind others is the fault of those, else of these
+-- the fault of checks after others is the fault of those, else of these
 pub first_fault-append : (front back : List Check) → first_fault (front ++ back) ≡ fault_or (first_fault front) (first_fault back)
 first_fault-append [] back = refl
 first_fault-append (c ∷ front) back =
@@ -110,7 +110,7 @@ module _ (h : Header) (bytes : List ℕ) where
       (relocs_checks-fault (is_big h.order) (h.text_relocs / RELOC_SIZE) (reloc_pieces (data_relocs_part h bytes)))
       ∙ ap (fault_or (all_relocs_fault h bytes)) (entries_checks-fault (strings_part h bytes) 0 (entries_in (is_big h.order) (entries_part h bytes)))
 
-  -- what stands behind its header
+  -- what stands after its header
   behind-fault : first_fault (place_checks h bytes ++ record_checks h bytes) ≡ fault_or (first_fault (place_checks h bytes)) (records_fault h bytes)
   behind-fault = first_fault-append (place_checks h bytes) (record_checks h bytes) ∙ ap (fault_or (first_fault (place_checks h bytes))) records_fault-is
 

@@ -19,7 +19,7 @@ use Rattle.aout_object.specs.Objects.{is_accepted_kind}
 
 -- ---- places in a file with this header, and what lies there
 
--- where data begins, behind the header and text
+-- where data begins, after the header and text
 abbrev pub data_at : Header → ℕ
 data_at h = HEADER_SIZE + h.text
 
@@ -59,7 +59,7 @@ data_relocs_part h bytes = part bytes (data_relocs_at h) h.data_relocs
 abbrev pub entries_part : Header → List ℕ → List ℕ
 entries_part h bytes = part bytes (entries_at h) h.symbols
 
--- the bytes of the string table, with all that stands behind it
+-- the bytes of the string table, with all that stands after it
 abbrev pub strings_part : Header → List ℕ → List ℕ
 strings_part h bytes = drop (table_at h) bytes
 
@@ -96,7 +96,7 @@ relocs_checks big place (piece ∷ pieces) = map (at_place place) (reloc_checks 
 
 -- ---- entries
 
--- an entry: its kind is accepted, and its name, unless it has none, begins behind the length word and in the table, and a zero byte ends it
+-- an entry: its kind is accepted, and its name, unless it has none, begins after the length word and in the table, and a zero byte ends it
 abbrev pub entry_checks : List ℕ → ℕ → Entry → List Check
 entry_checks strings place e =
     check (is_accepted_kind e.kind) KIND place

@@ -98,7 +98,7 @@ abbrev pub relocs_fault : Bool → ℕ → List (List ℕ) → Option Fault
 relocs_fault big place [] = None
 relocs_fault big place (piece ∷ pieces) = fault_or (fault_of place (read_reloc big piece)) (relocs_fault big (place + 1) pieces)
 
--- the fault of a name, by the place of the first zero byte behind its begin
+-- the fault of a name, by the place of the first zero byte after its begin
 abbrev pub end_fault : ℕ → Option ℕ → Option Fault
 end_fault place None = Some (fault_at NO_END place)
 end_fault place (Some end) = None
@@ -143,7 +143,7 @@ records_fault h bytes =
 abbrev pub header_in : List ℕ → Result Header Fault
 header_in bytes = if nat_le HEADER_SIZE (length bytes) then read (take HEADER_SIZE bytes) else Err (fault_at TRUNCATED (length bytes))
 
--- the fault of a file whose header was read so: that of the header, else the first behind it
+-- the fault of a file whose header was read so: that of the header, else the first after it
 abbrev pub fault_behind : Result Header Fault → List ℕ → Option Fault
 fault_behind (Err fault) bytes = Some fault
 fault_behind (Ok h) bytes = fault_or (first_fault (place_checks h bytes)) (records_fault h bytes)

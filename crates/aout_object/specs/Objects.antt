@@ -8,6 +8,7 @@ use Rattle.st_base.specs.declared.sizes.TheConstants.{ENTRY_SIZE, RELOC_SIZE}
 use Rattle.aout_layout.specs.declared.header.Header.{Header}
 use Rattle.aout_layout.specs.Headers.{header_bytes, HeaderFits, NumbersFit}
 use Rattle.nlist_codec.specs.declared.entry.Entry.{Entry}
+use Rattle.nlist_codec.specs.declared.kinds.TheConstants.{BSS_EXTERNAL}
 use Rattle.nlist_codec.specs.declared.named.Named.{Named}
 use Rattle.nlist_codec.specs.Entries.{EntryFits, entry_bytes}
 use Rattle.reloc.specs.declared.reloc.Reloc.{Reloc}
@@ -37,15 +38,15 @@ header_for o = record {
   data_relocs = length o.parts.data_relocs * RELOC_SIZE;
 }
 
--- the bytes of relocations, one behind the other
+-- the bytes of relocations, one after the other
 abbrev pub relocs_bytes : Bool → List Reloc → List ℕ
 relocs_bytes big relocs = flat_map (reloc_bytes big) relocs
 
--- the bytes of entries, one behind the other
+-- the bytes of entries, one after the other
 abbrev pub entries_bytes : Bool → List Entry → List ℕ
 entries_bytes big entries = flat_map (entry_bytes big) entries
 
--- what stands behind the header: text, data, text relocations, data relocations, entries, string table
+-- what stands after the header: text, data, text relocations, data relocations, entries, string table
 abbrev pub behind_header : Bool → Contents → List ℕ
 behind_header big o =
     o.parts.text ++ (o.parts.data_part ++ (relocs_bytes big o.parts.text_relocs ++ (relocs_bytes big o.parts.data_relocs ++
@@ -62,9 +63,9 @@ pub record IsReloc (r : Reloc) : Type 0 where
   pub address : r.address < 2 ^ 32
   pub fits : RelocFits r
 
--- an accepted kind: that of a stab, or one of 0 to 9
+-- an accepted kind: that of a stab, or one up to that of a definition in bss which all objects see
 abbrev pub is_accepted_kind : ℕ → Bool
-is_accepted_kind kind = is_stab kind || nat_le kind 9
+is_accepted_kind kind = is_stab kind || nat_le kind BSS_EXTERNAL
 
 -- an entry of an accepted kind, whose name the string table has
 pub record IsAccepted (strings : List ℕ) (entry : Entry) : Type 0 where

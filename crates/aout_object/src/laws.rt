@@ -1,7 +1,8 @@
-ghost use Rattle.std.specs.Prelude.{◌≡◌, ◌⊎◌, List, ℕ, None};
+ghost use Rattle.std.specs.Prelude.{◌≡◌, ◌⊎◌, ◌||◌, nat_le, List, ℕ, None};
 ghost use Rattle.st_base.specs.Number.{IsBytes};
 ghost use Rattle.st_base.specs.declared.fault.Fault.{Fault};
-ghost use Rattle.aout_object.specs.Objects.{Contents, ObjectSpells};
+ghost use Rattle.st_base.specs.declared.sizes.TheConstants.{FILE_LIMIT, GREATEST_ADDRESS};
+ghost use Rattle.aout_object.specs.Objects.{Contents, ObjectSpells, is_accepted_kind};
 ghost use Rattle.aout_object.specs.Checks.{FileFault};
 
 /// A file spells one object, an object has one file, and a file has either an object or a fault.
@@ -14,4 +15,11 @@ pub fn object_laws()
     ensures object_or_fault { (bytes : List ℕ) → IsBytes bytes
         → ((object : Contents) × ObjectSpells object bytes) ⊎ ((fault : Fault) × FileFault bytes fault) }
     ensures not_both { (bytes : List ℕ) (object : Contents) (fault : Fault) → IsBytes bytes → ObjectSpells object bytes → FileFault bytes fault → ⊥ }
+{}
+
+/// The limits of an object, and the kinds of entries that it can have.
+pub fn limits_are()
+    ensures file { FILE_LIMIT ≡ 134217728 }
+    ensures addresses { GREATEST_ADDRESS ≡ 4294967295 }
+    ensures kinds { (kind : ℕ) → is_accepted_kind kind ≡ (nat_le 32 kind || nat_le kind 9) }
 {}

@@ -13,7 +13,7 @@ mod parts;
 mod read;
 mod write;
 
-pub use laws::object_laws;
+pub use laws::{limits_are, object_laws};
 pub use object::Object;
 pub use parts::Parts;
 pub use read::decode;

@@ -134,7 +134,7 @@ fn is_half(number: u16)
     ensures { number < 2 ^ 16 }
 {}
 
-// What an object needs of its parts that its type does not tell a caller.
+// What an object needs of its parts that its type does not say to a caller.
 fn parts_are_numbers(parts: &Parts)
     ensures machine { parts.now.machine < 2 ^ 16 }
     ensures text_relocs { All (λ r. r.address < 2 ^ 32) parts.now.text_relocs }
@@ -170,7 +170,7 @@ fn make_checked(alloc: Global, parts: Parts, named: &[Named]) -> Result<Object, 
 impl Object {
     /// Makes an object of parts and of entries with their names. Each distinct name stands in the string table once, in order of
     /// first use; the table is there even without names. The conditions are that no name holds a zero byte, that each relocation
-    /// can be written, and that the machine word is not 0x0701, behind which the byte order could not be told.
+    /// can be written, and that the machine word is not 0x0701, with which the byte order would not be known.
     ///
     /// Refused at the first of these: `KIND` at the first entry of a kind that is not accepted; `TOO_LARGE` with place
     /// 4,294,967,295 where the end of bss passes that address; `TOO_LARGE` with place 134,217,728 where the file would have more

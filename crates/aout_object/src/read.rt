@@ -11,7 +11,7 @@ ghost use Rattle.aout_object.specs.Decoding.{Answers, Decodes, Gives};
 use crate::object::Object;
 use crate::parts::Parts;
 use aout_layout::{Header, read_header};
-use nlist_codec::{Entry, read_entries};
+use nlist_codec::{BSS_EXTERNAL, Entry, read_entries};
 use reloc::{Reloc, read_reloc};
 use st_base::{
     Fault, HEADER_SIZE, INSIDE, KIND, LEAST_STAB, LENGTH, List, NO_END, Order, PAST, RELOC_SIZE,
@@ -29,7 +29,7 @@ fn header_of(bytes: &[u8]) -> Result<Header, Fault>
     }
 }
 
-/// Where the parts behind text begin in a file.
+/// Where the parts after text begin in a file.
 #[derive(Clone, Copy, Debug, Drop)]
 struct Places {
     data_part: usize,
@@ -56,7 +56,7 @@ fn places_of(header: &Header) -> Places
     }
 }
 
-// The checks of the sizes of a file: all parts are there, then the string table, and nothing behind it.
+// The checks of the sizes of a file: all parts are there, then the string table, and nothing after it.
 fn check_places(header: &Header, places: &Places, bytes: &[u8]) -> Result<(), Fault>
     requires { spec.ArePlaces header.now places.now }
     ensures { result ≡ checked (checks.place_checks header.now bytes.now) tt }
@@ -138,7 +138,7 @@ fn read_relocs(
     }
 }
 
-// The place behind the last zero byte of a string table, where its last name ends; 0 where it has no zero byte.
+// The place after the last zero byte of a string table, where its last name ends; 0 where it has no zero byte.
 fn end_of_names(strings: &[u8]) -> usize
     ensures { spec.EndsNames strings.now result }
 {
@@ -170,11 +170,11 @@ fn check_name(strx: u32, strings: &[u8], end: usize, place: usize) -> Result<(),
     Ok(())
 }
 
-/// Whether entries of this kind are accepted: stabs, and those of the kinds 0 to 9.
+/// Whether entries of this kind are accepted: stabs, and those up to `BSS_EXTERNAL`.
 pub(crate) fn is_accepted_kind(kind: u8) -> bool
     ensures { result ≡ the_accepted_kind kind }
 {
-    LEAST_STAB <= kind || kind <= 9
+    LEAST_STAB <= kind || kind <= BSS_EXTERNAL
 }
 
 // An entry with this number: its kind is accepted, and the string table, whose last name ends before `end`, has its name.

@@ -57,7 +57,7 @@ fn put_entries<const BIG: bool>(out: &mut Text, entries: &[Entry]) -> Result<(),
     Ok(())
 }
 
-// What stands behind the header.
+// What stands after the header.
 fn put_parts<const BIG: bool>(out: &mut Text, object: &Object) -> Result<(), Memory>
     requires { ObjectFits object.now }
     ensures { OnOk result (out.new ≡ out.old ++ spec.behind_header BIG object.now) }

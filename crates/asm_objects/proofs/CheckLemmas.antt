@@ -41,6 +41,6 @@ pub faults_step : (t : Table) (p q : Places) (ss rest : List Statement) (s : Sta
 faults_step t p q ss rest s first next whole e invariant is moves =
     rw (is, moves) (earlier_assoc first (at_line s.line (fault_of t p s.what)) (faults t (after p s) rest) ∙ (rw e at invariant))
 
--- the statements behind one fit
+-- the statements after one fit
 pub fits_step : (ss rest : List Statement) (s : Statement) → ss ≡ s ∷ rest → AllFit ss → StatementFits s.what × AllFit rest
 fits_step ss rest s e fit = rw e at fit

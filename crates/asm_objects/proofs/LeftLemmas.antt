@@ -49,7 +49,7 @@ pub record Past (p q : Places) : Type 0 where
   pub bss : p.bss ≤ q.bss
   pub entries : p.entries ≤ q.entries
 
--- places are not before themselves, nor before those that they are behind
+-- places are not before themselves, nor before those that they are after
 past_same : (p : Places) → Past p p
 past_same p = record { text = omega arith; datum = omega arith; bss = omega arith; entries = omega arith }
 
@@ -70,7 +70,7 @@ past_grown : (q : Part) (p : Places) (n : ℕ) → Past p (grown_in q p n)
 past_grown part.Text p n = record { text = omega arith; datum = omega arith; bss = omega arith; entries = omega arith }
 past_grown part.Data p n = record { text = omega arith; datum = omega arith; bss = omega arith; entries = omega arith }
 
--- so do places behind a statement
+-- so do places after a statement
 past_moved : (p : Places) (w : What) → Past p (moved p w)
 past_moved p (what.Label name) = past_listed p (is_local name)
 past_moved p (what.Switch q) = record { text = omega arith; datum = omega arith; bss = omega arith; entries = omega arith }
@@ -83,7 +83,8 @@ past_moved p (what.Bytes bytes) = past_grown p.part p _
 past_moved p (what.Align n) = past_grown p.part p _
 past_moved p _ = past_same p
 
-past_after : (p : Places) (s : Statement) → Past p (after p s)
+-- nor are they after a statement
+pub past_after : (p : Places) (s : Statement) → Past p (after p s)
 past_after p s = let m = past_moved p s.what in record { text = m.text; datum = m.datum; bss = m.bss; entries = m.entries }
 
 -- places are not past the end
@@ -124,7 +125,7 @@ left_stands t p ss rest s e left = by (rw e at left)
           entries = subst (λ (q : Places). p.entries ≤ q.entries) end here.entries;
         }
 
--- those behind it
+-- those after it
 pub left_step : (t : Table) (p q : Places) (ss rest : List Statement) (s : Statement) → ss ≡ s ∷ rest → Left t p ss → q ≡ after p s → Left t q rest
 left_step t p q ss rest s e left moves = rw moves (by (rw e at left))
   where

@@ -54,13 +54,13 @@ absent-key es key name is absent = rw is (is-none _ absent)
     is-none None e = refl
     is-none (Some v) e = absurd (true≢false e)
 
--- the item at a place and what is behind it
+-- the item at a place and what is after it
 slice_item : {X : Type 0} (xs : List X) (i : ℕ) (x : X) → slice_get xs i ≡ Some x → drop i xs ≡ x ∷ drop (i + 1) xs
 slice_item [] i x e = absurd (none-some x e)
 slice_item (y ∷ xs) zero x e = let same : y ≡ x = cc in rw same refl
 slice_item (y ∷ xs) (suc i) x e = rw (add-one (suc i)) (rw (add-one i) at (slice_item xs i x e))
 
--- what one item more of a list gives is put behind what was given before
+-- what one item more of a list gives is put after what was given before
 pub taken_step : {X Y : Type 0} (f : X → Y) (xs : List X) (out next whole : List Y) (i : ℕ) (x : X) → out ++ map f (drop i xs) ≡ whole → slice_get xs i ≡ Some x
     → next ≡ out ++ f x ∷ [] → next ++ map f (drop (i + 1) xs) ≡ whole
 taken_step f xs out next whole i x invariant item is =

@@ -1,4 +1,4 @@
--- One step of a pass: what is done and what is left make the whole before and behind a statement, and offsets and places have room.
+-- One step of a pass: what is done and what is left make the whole before and after a statement, and offsets and places have room.
 use Rattle.std.proofs.Common.{◌≡◌, ℕ, ◌+◌, ◌*◌, ◌^◌, ◌%◌, ◌<◌, ◌≤◌, Bool, List, [], ◌∷◌, ◌++◌, length, get_or, drop, suc, sym, ap, subst, ◌∙◌, inl, inr, arith, add-one, drop-cons, append_assoc, fold, Option, None, Some, is_some}
 use Rattle.std.proofs.Math.Pow.{pow_mono}
 use Rattle.std.proofs.lemmas.Bool.{cases_Bool}
@@ -24,7 +24,7 @@ use Rattle.asm_statements.specs.declared.statement.Part.TheVariants as part
 use Rattle.asm_statements.specs.declared.statement.Statement.{Statement}
 use Rattle.asm_statements.specs.declared.statement.What.{What}
 
--- an item of a list and what is behind it
+-- an item of a list and what is after it
 pub drop_item : {X : Type 0} (xs : List X) (i : ℕ) (x : X) → i < length xs → x ≡ get_or xs i x → drop i xs ≡ x ∷ drop (i + 1) xs
 drop_item xs i x within is = drop-cons xs i x within ∙ ap (λ y. y ∷ drop (suc i) xs) (sym is) ∙ ap (λ j. x ∷ drop j xs) (sym (add-one i))
 
@@ -36,11 +36,11 @@ taken before behind x steps = steps.0
 pub power_small : (n : ℕ) → n ≤ 12 → 1 * 2 ^ n % 340282366920938463463374607431768211456 ≤ 4096
 power_small n small = omega (arith, pow_mono small)
 
--- there is room for the statements behind one
+-- there is room for the statements after one
 pub room_step : (p q : Places) (ss rest : List Statement) (s : Statement) → ss ≡ s ∷ rest → Room p (length ss) → ((n : ℕ) → Room p (n + 1) → Room q n) → Room q (length rest)
 room_step p q ss rest s e room step = step (length rest) (rw (add-one (length rest)) (rw e at room))
 
--- what one statement more gives is put behind what was given before
+-- what one statement more gives is put after what was given before
 pub each_step : {X : Type 0} (f : Places → What → List X) (p q : Places) (ss rest : List Statement) (s : Statement) (out next whole : List X) → ss ≡ s ∷ rest
     → out ++ each f p ss ≡ whole → next ≡ out ++ f p s.what → q ≡ after p s → next ++ each f q rest ≡ whole
 each_step f p q ss rest s out next whole e invariant is moves = rw (is, moves) (append_assoc out (f p s.what) (each f (after p s) rest) ∙ (rw e at invariant))
@@ -51,7 +51,7 @@ pub fold_step : {X Y : Type 0} (g : Y → X → Y) (f : Places → What → List
 fold_step g f p q ss rest s old next whole e invariant is moves =
     rw (is, moves) (sym (fold-append g old (f p s.what) (each f (after p s) rest)) ∙ (rw e at invariant))
 
--- a definition behind others
+-- a definition after others
 offsets-push : (es : List (List ℕ × Definition)) (e : List ℕ × Definition) → OffsetsFit es → e.1.offset < 2 ^ 124 → OffsetsFit (es ++ e ∷ [])
 offsets-push [] e fit small = (small, tt)
 offsets-push (x ∷ es) e fit small = (fit.0, offsets-push es e fit.1 small)

@@ -18,7 +18,7 @@ use Rattle.asm_objects.specs.declared.table.Table.{Table}
 
 -- ---- the table
 
--- the second places are behind one statement that stands at the first: no size is more than 2^65 greater
+-- the second places are after one statement that stands at the first: no size is more than 2^65 greater
 pub record Grows (p q : Places) : Type 0 where
   pub text : q.text ≤ p.text + 2 ^ 65
   pub datum : q.datum ≤ p.datum + 2 ^ 65

@@ -77,7 +77,7 @@ moved p (what.Machine n) = p
 moved p (what.Bsize n) = p
 moved p (what.Rel r) = p
 
--- the places behind a statement
+-- the places after a statement
 abbrev pub after : Places → Statement → Places
 after p s = record (moved p s.what) { number = p.number + 1 }
 
@@ -85,7 +85,7 @@ after p s = record (moved p s.what) { number = p.number + 1 }
 abbrev pub start : Places
 start = record { part = part.Text; text = 0; datum = 0; bss = 0; entries = 0; number = 0 }
 
--- the places behind a list of statements
+-- the places after a list of statements
 abbrev pub end_of : Places → List Statement → Places
 end_of p [] = p
 end_of p (s ∷ ss) = end_of (after p s) ss

@@ -5,7 +5,8 @@
 //! what is made (`making`). What a statement means is a look-up in the finished table, so no field is filled in later.
 //!
 //! The laws that the layer above uses: `assemble_statements` gives what `Making.object_of` says, and the fault is the first by line and
-//! number (`first_fault_laws`).
+//! number (`first_fault_laws`). Where statements stand and what names stand for is said by sums and first places over the statements
+//! (`place_laws`), and so is where in the object stands what each gives (`making_laws`); `limits_are` has the ranges in numbers.
 #![tactic(auto)]
 
 mod assembling;
@@ -20,7 +21,7 @@ mod words;
 
 pub use assembling::assemble_statements;
 pub use check::Use;
-pub use laws::first_fault_laws;
+pub use laws::{first_fault_laws, limits_are, making_laws, place_laws};
 pub use names::Names;
 pub use table::{Definition, Home, Places, Table};
 pub use words::Words;

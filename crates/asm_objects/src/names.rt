@@ -44,7 +44,7 @@ impl Names {
         self.map.get(name).copied()
     }
 
-    /// Gives a name its definition, where it has none.
+    /// Gives a name its definition, where it has none. Refused only where memory runs out; the names are then as they were.
     pub fn add(&mut self, name: &[u8], definition: Definition) -> Result<(), Memory>
         ensures ok { OnOk result (self.new ≡ with_first self.old (name.now, definition)) }
         ensures err { OnErr result (self.new ≡ self.old) }

@@ -38,7 +38,7 @@ pub struct Definition {
     pub number: u64,
 }
 
-/// What the first pass finds: the definitions, the names of `.globl`, and the places behind the last statement.
+/// What the first pass finds: the definitions, the names of `.globl`, and the places after the last statement.
 #[derive(Drop)]
 pub struct Table {
     pub names: Names,
@@ -169,7 +169,7 @@ fn moved(places: Places, what: &What) -> Places
     }
 }
 
-/// The places behind a statement.
+/// The places after a statement.
 pub(crate) fn after(places: Places, statement: &Statement) -> Places
     requires { spec.Room places 1 }
     ensures value { result ≡ spec.after places statement.now }

@@ -68,7 +68,7 @@ impl Words {
         Ok(text)
     }
 
-    /// Adds a name, where it is not there.
+    /// Adds a name, where it is not there. Refused only where memory runs out; the names are then as they were.
     pub fn add(&mut self, name: &[u8]) -> Result<(), Memory>
         ensures ok { OnOk result (self.new ≡ with_word self.old name.now) }
         ensures err { OnErr result (self.new ≡ self.old) }

@@ -1,4 +1,4 @@
--- Worked lines: what they are, and which are of no form.
+-- Worked lines: what they are, and which do not parse.
 use Rattle.std.proofs.Common.{◌≡◌, [], ◌∷◌, ◌++◌, Some, None, refl, false, Ok, Err}
 use Rattle.std.specs.Prelude.{codes}
 use Rattle.asm_statements.specs.Tokens.{tokens}

@@ -55,7 +55,7 @@ label_refused (c ∷ d ∷ ts) a b t out whole old was two x y told yes' named =
     let n : name_in c ≡ None = ap name_in (sym x) ∙ named in
     whats_none old (statements_of whole) (sym (rw (e, n) at was))
 
--- what is put behind what was put before
+-- what is put after what was put before
 pub puts_through : (r : Result (Unit {0}) Bad) (out new old : Out) (read whole : Option (List What)) → Puts r out new read → with_whats out read ≡ with_whats old whole → Puts r old new whole
 puts_through (Ok u) out new old read whole puts was = sym was ∙ puts
 puts_through (Err bad.Form) out new old read whole puts was = whats_none old whole (sym was ∙ ap (with_whats out) puts)
@@ -148,7 +148,7 @@ source_last out new rest line o whole was is none puts =
     let step : with_statements out.statements (with_line out.number p.whats (Ok [])) ≡ whole = rw p.is at (rw lines at was) in
     sym step ∙ ap (λ l. Ok (out.statements ++ l)) (append-nil (map (at_line out.number) p.whats)) ∙ ap (λ (u : Out). Ok u.statements) (sym p.puts)
 
--- a line of no form
+-- a line that does not parse
 pub source_bad : (out : Out) (rest line : List ℕ) (o : Option (List ℕ)) (whole : Result (List Statement) ℕ)
     → with_statements out.statements (read_lines out.number (lines_of rest)) ≡ whole → lines_of rest ≡ line ∷ lines_behind o → line_of line ≡ None → whole ≡ Err out.number
 source_bad out rest line o whole was is bad' = sym (rw bad' at (rw is at was))

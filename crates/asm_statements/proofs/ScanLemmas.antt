@@ -13,7 +13,7 @@ use Rattle.asm_statements.specs.declared.token.Quoted.{Quoted}
 use Rattle.asm_statements.specs.declared.token.Quoted.TheVariants.{Inside, Escaped, One, Two}
 
 -- all bytes pass a test
-abbrev Each : (ℕ → Bool) → List ℕ → Type 0
+abbrev pub Each : (ℕ → Bool) → List ℕ → Type 0
 Each test [] = Unit {0}
 Each test (b ∷ bs) = (test b ≡ true) × Each test bs
 
@@ -29,10 +29,12 @@ no_quote b h = grind (arith, nat_tests)
 no_hash : (b : ℕ) → in_word b ≡ true → (b == 35) ≡ false
 no_hash b h = grind (arith, nat_tests)
 
+-- a byte before a word that goes on
 word_more : (b c : ℕ) (w : List ℕ) (ts : Option (List Token)) → glue b true (with_token (Word (c ∷ w)) ts) ≡ with_token (Word (b ∷ c ∷ w)) ts
 word_more b c w None = refl
 word_more b c w (Some ts) = refl
 
+-- a byte that is a word alone
 word_last : (b : ℕ) (ts : Option (List Token)) → glue b false ts ≡ with_token (Word (b ∷ [])) ts
 word_last b None = refl
 word_last b (Some []) = refl
@@ -40,9 +42,11 @@ word_last b (Some (Word w ∷ ts)) = refl
 word_last b (Some (Str s ∷ ts)) = refl
 word_last b (Some (Mark m ∷ ts)) = refl
 
+-- a byte of a word is glued to what is read after it
 word_step : (b : ℕ) (rest : List ℕ) → in_word b ≡ true → tokens (b ∷ rest) ≡ glue b (begins_word rest) (tokens rest)
 word_step b rest h = rw (no_quote b h, no_hash b h, no_blank b h, h) refl
 
+-- the same where the rest is read so
 glue_more : (b c : ℕ) (w : List ℕ) (more : Bool) (read ts : Option (List Token)) → more ≡ true → read ≡ with_token (Word (c ∷ w)) ts → glue b more read ≡ with_token (Word (b ∷ c ∷ w)) ts
 glue_more b c w more read ts e f = rw (e, f) (word_more b c w ts)
 
@@ -50,7 +54,7 @@ glue_last : (b : ℕ) (more : Bool) (ts : Option (List Token)) → more ≡ fals
 glue_last b more ts e = rw e (word_last b ts)
 
 -- the bytes of a word up to one that is not of a word are its token
-word_read : (b : ℕ) (w rest : List ℕ) → in_word b ≡ true → Each in_word w → begins_word rest ≡ false → tokens (b ∷ (w ++ rest)) ≡ with_token (Word (b ∷ w)) (tokens rest)
+pub word_read : (b : ℕ) (w rest : List ℕ) → in_word b ≡ true → Each in_word w → begins_word rest ≡ false → tokens (b ∷ (w ++ rest)) ≡ with_token (Word (b ∷ w)) (tokens rest)
 word_read b [] rest h each stops = word_step b rest h ∙ glue_last b (begins_word rest) (tokens rest) stops
 word_read b (c ∷ w) rest h each stops =
     word_step b (c ∷ (w ++ rest)) h ∙ glue_more b c w (in_word c) (tokens (c ∷ (w ++ rest))) (tokens rest) each.0 (word_read c w rest each.0 each.1 stops)
@@ -218,6 +222,6 @@ word_fits (b ∷ more) word behind n t some is yes' end front back =
     let each : Each in_word (take u.end more) = subst (λ k. Each in_word (take k more)) (sym u.ends) (prefix_each more) in
     subst HasNoZero (sym u.front) (no_zero (b ∷ take u.end more) (sym is ∙ yes', each))
 
--- what is left behind a byte is no longer
+-- what is left after a byte is no longer
 pub shorter_next : (rest : List ℕ) (n : ℕ) → length rest ≤ n → length (take (length rest - 1) (drop 1 rest)) ≤ n
 shorter_next rest n h = simp (length-take, length-drop) (omega arith)

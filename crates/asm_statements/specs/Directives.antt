@@ -33,7 +33,7 @@ shift back (Named w ∷ names) = 0
 abbrev pub shifted : ℕ → Sum → Sum
 shifted back s = record s { less = s.less + shift back s.added; more = s.more + shift back s.taken }
 
--- the fields behind those of `back` bytes
+-- the fields after those of `back` bytes
 abbrev pub fields : Width → ℕ → List (List Token) → Option (List What)
 fields width back [] = Some []
 fields width back (p ∷ ps) =
@@ -125,7 +125,7 @@ the_string ps = one_of ps >>= string_of
 abbrev pub ascii_of : List (List Token) → Option (List What)
 ascii_of ps = the_string ps >>= λ s. Some (what.Bytes s ∷ [])
 
--- with a zero byte behind them
+-- with a zero byte after them
 abbrev pub asciz_of : List (List Token) → Option (List What)
 asciz_of ps = the_string ps >>= λ s. Some (what.Bytes (s ++ 0 ∷ []) ∷ [])
 

@@ -22,7 +22,7 @@ pub record SumFits (s : Sum) : Type 0 where
   pub less : s.less < 2 ^ 100
   pub added : NamesFit s.added
 
--- a statement; the string of a stab may hold any byte, since the fault of a zero byte there is told
+-- a statement; the string of a stab may hold any byte, since the fault of a zero byte there is reported
 abbrev pub StatementFits : What → Type 0
 StatementFits (what.Label name) = HasNoZero name
 StatementFits (what.Comm name n) = HasNoZero name

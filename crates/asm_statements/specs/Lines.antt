@@ -22,7 +22,7 @@ is_colon (Mark m) = m == 58
 is_colon (Word w) = false
 is_colon (Str s) = false
 
--- a word, and what stands behind it
+-- a word, and what stands after it
 abbrev pub word_in : Token → Option (List ℕ)
 word_in (Word w) = Some w
 word_in (Str s) = None
@@ -40,7 +40,7 @@ statements_of (t ∷ []) = rest_of (t ∷ [])
 statements_of (t ∷ u ∷ ts) =
     if is_colon u then (name_in t >>= λ w. statements_of ts >>= λ ws. Some (what.Label w ∷ ws)) else rest_of (t ∷ u ∷ ts)
 
--- what a line is; none where it is of no form
+-- what a line is; none where it does not parse
 abbrev pub line_of : List ℕ → Option (List What)
 line_of text = tokens text >>= statements_of
 
@@ -71,16 +71,16 @@ abbrev pub read_line : ℕ → Option (List What) → Result (List Statement) �
 read_line n None rest = Err n
 read_line n (Some ws) rest = with_line n ws rest
 
--- the statements of lines of which the first has the number n, or the number of the first line that is of no form
+-- the statements of lines of which the first has the number n, or the number of the first line that does not parse
 abbrev pub read_lines : ℕ → List (List ℕ) → Result (List Statement) ℕ
 read_lines n [] = Ok []
 read_lines n (l ∷ ls) = read_line n (line_of l) (read_lines (n + 1) ls)
 
--- the statements of a source, or the number of its first line that is of no form
+-- the statements of a source, or the number of its first line that does not parse
 abbrev pub read_source : List ℕ → Result (List Statement) ℕ
 read_source text = read_lines 1 (lines_of text)
 
--- the code answers the statements, or the fault of the first line that is of no form; out of memory is free
+-- the code answers the statements, or the fault of the first line that does not parse; out of memory is free
 abbrev pub ReadsSource : Result (List Statement) Refused → Result (List Statement) ℕ → Type 0
 ReadsSource (Ok ss) read = read ≡ Ok ss
 ReadsSource (Err refused.Memory) read = Unit {0}

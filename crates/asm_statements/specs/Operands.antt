@@ -29,12 +29,12 @@ abbrev pub value_on : ℕ → ℕ → List ℕ → Option ℕ
 value_on base v [] = Some v
 value_on base v (b ∷ ds) = if nat_le (suc (digit_value b)) base then value_on base (min limit (base * v + digit_value b)) ds else None
 
--- behind `0x`
+-- after `0x`
 abbrev pub hex_value : List ℕ → Option ℕ
 hex_value [] = None
 hex_value (b ∷ ds) = value_on 16 0 (b ∷ ds)
 
--- behind `0`
+-- after `0`
 abbrev pub zero_value : List ℕ → Option ℕ
 zero_value [] = Some 0
 zero_value (b ∷ ds) = if b == 120 then hex_value ds else value_on 8 0 (b ∷ ds)
@@ -91,13 +91,13 @@ is_minus (Str t) = false
 abbrev pub with_signed : Token → Token → Sum → Option Sum
 with_signed a t s = sign a >>= λ minus. with_term minus t s
 
--- the terms behind the first, each with its sign
+-- the terms after the first, each with its sign
 abbrev pub terms : Sum → List Token → Option Sum
 terms s [] = Some s
 terms s (a ∷ []) = None
 terms s (a ∷ t ∷ ts) = with_signed a t s >>= λ r. terms r ts
 
--- the first term and those behind it
+-- the first term and those after it
 abbrev pub sum_from : Bool → List Token → Option Sum
 sum_from minus [] = None
 sum_from minus (t ∷ ts) = with_term minus t nothing >>= λ r. terms r ts

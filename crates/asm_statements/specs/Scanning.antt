@@ -14,13 +14,13 @@ use Rattle.asm_statements.specs.declared.statement.Sum.{Sum}
 use Rattle.asm_statements.specs.declared.statement.What.{What}
 use Rattle.asm_statements.specs.declared.statement.Statement.{Statement}
 
--- the code answers what reading gives, unless memory was wanting
+-- the code answers what reading gives, unless memory ran out
 abbrev pub Reads : {X Y : Type 0} → (X → Y) → Result X Bad → Option Y → Type 0
 Reads view (Ok x) read = read ≡ Some (view x)
 Reads view (Err bad.Form) read = read ≡ None
 Reads view (Err bad.Memory) read = Unit {0}
 
--- one byte of a string: where the next one stands (none behind the closing `"`), and the bytes so far
+-- one byte of a string: where the next one stands (none after the closing `"`), and the bytes so far
 abbrev pub step_inside : ℕ → List ℕ → Option (Option Quoted × List ℕ)
 step_inside b s = if b == 34 then Some (None, s) else (if b == 92 then Some (Some Escaped, s) else Some (Some Inside, s ++ b ∷ []))
 
@@ -40,13 +40,13 @@ step Escaped b s =
 step (One v) b s = if is_octal b then Some (Some (Two (8 * v + (b - 48))), s) else step_done v b s
 step (Two v) b s = if is_octal b then (if nat_le (8 * v + (b - 48)) 255 then Some (Some Inside, s ++ (8 * v + (b - 48)) ∷ []) else None) else step_done v b s
 
--- the code makes this step, unless memory was wanting
+-- the code makes this step, unless memory ran out
 abbrev pub Steps : Result (Option Quoted) Bad → List ℕ → Option (Option Quoted × List ℕ) → Type 0
 Steps (Ok next) text step = step ≡ Some (next, text)
 Steps (Err bad.Form) text step = step ≡ None
 Steps (Err bad.Memory) text step = Unit {0}
 
--- bytes in front of the first string
+-- bytes before the first string
 abbrev pub text_head : List ℕ → List Token → List Token
 text_head s (Str t ∷ ts) = Str (s ++ t) ∷ ts
 text_head s ts = ts
@@ -64,7 +64,7 @@ abbrev pub with_front : List Token → Option (List Token) → Option (List Toke
 with_front front None = None
 with_front front (Some ts) = Some (front ++ ts)
 
--- the code refuses: memory was wanting, or nothing is read
+-- the code refuses: memory ran out, or nothing is read
 abbrev pub Refuses : {Y : Type 0} → Bad → Option Y → Type 0
 Refuses bad.Form read = read ≡ None
 Refuses bad.Memory read = Unit {0}
@@ -86,27 +86,27 @@ abbrev pub pieces_at : List Token → Option ℕ → List (List Token)
 pieces_at ts None = ts ∷ []
 pieces_at ts (Some at) = take at ts ∷ pieces (drop (at + 1) ts)
 
--- the pieces behind a comma, if there is one
+-- the pieces after a comma, if there is one
 abbrev pub pieces_behind : Option (List Token) → List (List Token)
 pieces_behind None = []
 pieces_behind (Some ts) = pieces ts
 
--- a statement of the line behind others
+-- a statement of the line after others
 abbrev pub with_what : Out → What → Out
 with_what out w = record out { statements = out.statements ++ at_line out.number w ∷ [] }
 
--- the statements of the line behind others
+-- the statements of the line after others
 abbrev pub with_whats : Out → Option (List What) → Option Out
 with_whats out None = None
 with_whats out (Some ws) = Some (record out { statements = out.statements ++ map (at_line out.number) ws })
 
--- the code puts the statements that are read behind others, unless memory was wanting
+-- the code puts the statements that are read after others, unless memory ran out
 abbrev pub Puts : Result (Unit {0}) Bad → Out → Out → Option (List What) → Type 0
 Puts (Ok u) old new read = with_whats old read ≡ Some new
 Puts (Err bad.Form) old new read = read ≡ None
 Puts (Err bad.Memory) old new read = Unit {0}
 
--- the lines behind a line feed, if there is one
+-- the lines after a line feed, if there is one
 abbrev pub lines_behind : Option (List ℕ) → List (List ℕ)
 lines_behind None = []
 lines_behind (Some text) = lines_of text

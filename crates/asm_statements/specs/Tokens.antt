@@ -34,7 +34,7 @@ is_blank b = b == 32 || b == 9
 abbrev pub is_octal : ℕ → Bool
 is_octal b = is_within 48 55 b
 
--- ---- reading, byte by byte: what a byte gives is put in front of what the rest gives
+-- ---- reading, byte by byte: what a byte gives is put before what the rest gives
 
 -- outside strings, in a string, in a comment
 pub data Mode : Type 0 where
@@ -49,14 +49,14 @@ inside = within Inside
 abbrev pub next_inside : ℕ → Mode
 next_inside b = if b == 34 then outside else (if b == 92 then within Escaped else inside)
 
--- what stands behind a byte of a string: behind `\`, and behind `\` and one or two octal digits of this value
+-- what stands after a byte of a string: after `\`, and after `\` and one or two octal digits of this value
 abbrev pub next_quoted : Quoted → ℕ → Mode
 next_quoted Inside b = next_inside b
 next_quoted Escaped b = if is_octal b then within (One (b - 48)) else inside
 next_quoted (One v) b = if is_octal b then within (Two (8 * v + (b - 48))) else next_inside b
 next_quoted (Two v) b = if is_octal b then inside else next_inside b
 
--- what stands behind a byte
+-- what stands after a byte
 abbrev pub next : Mode → ℕ → Mode
 next outside b = if b == 34 then inside else (if b == 35 then comment else outside)
 next (within q) b = next_quoted q b
@@ -67,7 +67,7 @@ abbrev pub with_token : Token → Option (List Token) → Option (List Token)
 with_token t None = None
 with_token t (Some ts) = Some (t ∷ ts)
 
--- a byte in front of the first string
+-- a byte before the first string
 abbrev pub put_head : ℕ → List Token → List Token
 put_head b (Str s ∷ ts) = Str (b ∷ s) ∷ ts
 put_head b ts = ts
@@ -76,7 +76,7 @@ abbrev pub put : ℕ → Option (List Token) → Option (List Token)
 put b None = None
 put b (Some ts) = Some (put_head b ts)
 
--- a byte in front of a word that goes on, else a word of its own
+-- a byte before a word that goes on, else a word of its own
 abbrev pub glue_head : ℕ → Bool → List Token → List Token
 glue_head b true (Word w ∷ ts) = Word (b ∷ w) ∷ ts
 glue_head b _ ts = Word (b ∷ []) ∷ ts
@@ -114,7 +114,7 @@ give_quoted Escaped b read = give_escaped b read
 give_quoted (One v) b read = if is_octal b then read else put_octal v (give_inside b read)
 give_quoted (Two v) b read = if is_octal b then put_octal (8 * v + (b - 48)) read else put_octal v (give_inside b read)
 
--- what a byte gives in front of what the rest gives; `more`: the rest begins with a byte of a word
+-- what a byte gives before what the rest gives; `more`: the rest begins with a byte of a word
 abbrev pub give : Mode → ℕ → Bool → Option (List Token) → Option (List Token)
 give outside b more read = give_outside b more read
 give (within q) b more read = give_quoted q b read

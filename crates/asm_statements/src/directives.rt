@@ -350,7 +350,7 @@ fn put_fields(alloc: Global, width: Width, tokens: &[Token], out: &mut Out) -> R
     out.put(What::Field(width, value))
 }
 
-/// Puts the statements that the operands of a directive give behind those that were read. Refused where the operands are of no form.
+/// Puts the statements that the operands of a directive give after those that were read. Refused where the operands do not parse.
 /// Takes memory for the statements.
 pub(crate) fn put_operands(
     alloc: Global,

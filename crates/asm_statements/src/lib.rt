@@ -1,4 +1,4 @@
-//! A source in the directives of GNU as, as a list of statements, or its first line that is of no form. Each statement gives at most one
+//! A source in the directives of GNU as, as a list of statements, or its first line that does not parse. Each statement gives at most one
 //! field, one entry and one relocation: `.long a,b` is two. It stands on texts and on what a name of a string table is.
 //!
 //! The law that the layer above uses: `read_source` answers the statements that `Lines.read_source` says, and they fit

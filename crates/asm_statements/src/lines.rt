@@ -66,7 +66,7 @@ fn put_statements(alloc: Global, tokens: &[Token], out: &mut Out) -> Result<(), 
     put_rest(alloc, rest, out)
 }
 
-// The statements of a line, behind those of the lines before it. The list of tokens is used again for each line.
+// The statements of a line, after those of the lines before it. The list of tokens is used again for each line.
 fn read_line<'a>(
     alloc: Global,
     line: &'a [u8],
@@ -86,7 +86,7 @@ fn feed_at(bytes: &[u8]) -> Option<usize>
     bytes.iter().position(|byte| *byte == b'\n')
 }
 
-// The first line, and what stands behind its line feed, if it has one.
+// The first line, and what stands after its line feed, if it has one.
 fn cut_line(bytes: &[u8]) -> (&[u8], Option<&[u8]>)
     ensures value { spec.lines_of bytes.now ≡ result.0.now ∷ lines_behind (option_copied result.1) }
     ensures behind { IfSome result.1 (λ x. length x.now < length bytes.now) }
@@ -107,7 +107,7 @@ fn syntax_fault(line: u64) -> Fault
     }
 }
 
-/// The statements of a source. Refused with `LINE_SYNTAX` at the first line that is of no form; the place is the number of that line,
+/// The statements of a source. Refused with `LINE_SYNTAX` at the first line that does not parse; the place is the number of that line,
 /// counted from 1. Takes memory for the statements and for the tokens of a line.
 pub fn read_source(alloc: Global, source: &[u8]) -> Result<Statements, Refused>
     ensures { ReadsSource result (spec.read_source source.now) }

@@ -407,7 +407,7 @@ pub(crate) fn first_end(tokens: &[Token]) -> Option<usize>
     comma_at(tokens)
 }
 
-/// The tokens behind the comma at a place. Takes no memory.
+/// The tokens after the comma at a place. Takes no memory.
 pub(crate) fn behind<'t, 'a>(tokens: Tokens<'t, 'a>, at: usize) -> Tokens<'t, 'a>
     requires { at < length tokens.now }
     ensures value { result.now ≡ drop (at + 1) tokens.now }
@@ -416,7 +416,7 @@ pub(crate) fn behind<'t, 'a>(tokens: Tokens<'t, 'a>, at: usize) -> Tokens<'t, 'a
     &tokens[at + 1..]
 }
 
-/// The tokens before the first comma, and those behind it, if there is one. Takes no memory.
+/// The tokens before the first comma, and those after it, if there is one. Takes no memory.
 pub(crate) fn cut<'t, 'a>(tokens: Tokens<'t, 'a>) -> (Tokens<'t, 'a>, Option<Tokens<'t, 'a>>)
     ensures value { spec.pieces tokens.now ≡ result.0.now ∷ pieces_behind (option_copied result.1) }
 {

@@ -1,4 +1,4 @@
-ghost use Rattle.std.specs.Prelude.{◌≡◌, ◌∷◌, ◌++◌, [], Some, OnOk};
+ghost use Rattle.std.specs.Prelude.{◌≡◌, ◌∷◌, ◌++◌, [], Some, OnErr, OnOk};
 ghost use Rattle.asm_statements.specs.Fits.{StatementFits, AllFit};
 ghost use Rattle.asm_statements.specs.Lines.{at_line};
 ghost use Rattle.asm_statements.specs.Scanning.{with_what, Puts};
@@ -38,10 +38,11 @@ impl Statements {
     }
 
     #[tactic(auto, using(crate::proofs::FitLemmas::pushed_fit))]
-    /// Appends a statement that fits. Refused only where memory runs out.
+    /// Appends a statement that fits. Refused only where memory runs out; the list is then as it was.
     pub fn push(&mut self, line: u64, what: What) -> Result<(), Memory>
         requires { StatementFits what }
-        ensures { OnOk result (self.new ≡ self.old ++ at_line line what ∷ []) }
+        ensures pushed { OnOk result (self.new ≡ self.old ++ at_line line what ∷ []) }
+        ensures kept { OnErr result (self.new ≡ self.old) }
     {
         self.list.push(Statement { line, what })?;
         Ok(())

@@ -12,7 +12,7 @@ use std::alloc::Global;
 // A string of so many bytes does not grow while it is read.
 const SHORT_STRING: usize = 64;
 
-/// Why a line is not read: it is of no form, or memory was wanting.
+/// Why a line is not read: it does not parse, or memory ran out.
 #[derive(Clone, Copy, Drop)]
 pub enum Bad {
     Form,
@@ -73,7 +73,7 @@ fn word_end(bytes: &[u8]) -> usize
     bytes.len()
 }
 
-// What a byte adds to a string, and where in the string the next byte stands; none behind the closing `"`.
+// What a byte adds to a string, and where in the string the next byte stands; none after the closing `"`.
 fn step_inside(text: &mut Text, byte: u8) -> Result<Option<Quoted>, Bad>
     ensures { Steps result text.new (scan.step_inside byte text.old) }
 {
@@ -154,7 +154,7 @@ fn step(text: &mut Text, quoted: Quoted, byte: u8) -> Result<Option<Quoted>, Bad
     }
 }
 
-// An empty text with room for a short string in front of these bytes.
+// An empty text with room for a short string before these bytes.
 fn text_before(alloc: Global, bytes: &[u8]) -> Result<Text, Memory>
     ensures { IfOk result (λ t. t ≡ []) }
 {
@@ -163,7 +163,7 @@ fn text_before(alloc: Global, bytes: &[u8]) -> Result<Text, Memory>
     Ok(text)
 }
 
-// The string behind a `"`, and what stands behind it.
+// The string after a `"`, and what stands after it.
 fn string_at(alloc: Global, bytes: &[u8]) -> Result<(Text, &[u8]), Bad>
     ensures read { IfOk result (λ x. spec.read_in spec.inside bytes.now ≡ spec.with_token (Str x.0) (spec.tokens x.1.now)) }
     ensures refused { IfErr result (λ e. Refuses e (spec.read_in spec.inside bytes.now)) }
@@ -184,7 +184,7 @@ fn string_at(alloc: Global, bytes: &[u8]) -> Result<(Text, &[u8]), Bad>
     Err(Bad::Form)
 }
 
-// A token, a blank or a comment, and what stands behind it.
+// A token, a blank or a comment, and what stands after it.
 fn take_token<'a>(alloc: Global, bytes: &'a [u8]) -> Result<(Option<Token<'a>>, &'a [u8]), Bad>
     requires { 0 < length bytes.now }
     ensures read { IfOk result (λ x. spec.tokens bytes.now ≡ scan.with_maybe x.0 (spec.tokens x.1.now)) }

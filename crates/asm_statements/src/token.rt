@@ -7,7 +7,7 @@ ghost use Rattle.asm_statements.specs.Kinds.{token_of, KindFits};
 use st_base::Text;
 use std::marker::Model;
 
-/// Where in a string a byte stands: not behind a `\\`, behind one, or behind one and one or two octal digits of this value.
+/// Where in a string a byte stands: not after a `\\`, after one, or after one and one or two octal digits of this value.
 #[derive(Clone, Copy, Drop)]
 pub enum Quoted {
     Inside,

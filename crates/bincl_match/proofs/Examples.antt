@@ -4,17 +4,17 @@ use Rattle.std.proofs.lemmas.Fmt.{decimal_digit}
 use Rattle.stab_codes.specs.declared.code.TheConstants.{N_SO, N_BINCL, N_EINCL, N_LSYM, N_SLINE}
 use Rattle.stab_codes.specs.Table as table
 use Rattle.nlist_codec.specs.declared.named.Named.{Named}
-use Rattle.stab_grammar.specs.declared.tree.Num.{Num}
-use Rattle.stab_grammar.specs.declared.tree.Num.TheVariants.{Plain, Pair}
-use Rattle.stab_grammar.specs.declared.tree.Descriptor.TheVariants as descriptors
-use Rattle.stab_grammar.specs.declared.tree.Symbol.{Symbol}
-use Rattle.stab_grammar.specs.declared.tree.TypeTree.TheVariants.{Ref, rolls-Ref}
-use Rattle.stab_grammar.specs.declared.tree.TypeTree.TheOpen.{TypeTree-F, Field-F}
-use Rattle.stab_grammar.specs.declared.tree.TypeTree.TheFolds.{fold-TypeTree, fold-roll-TypeTree}
-use Rattle.stab_units.specs.declared.outline_types.UnitSpan.{UnitSpan}
+use Rattle.stab_symbols.specs.declared.tree.Num.{Num}
+use Rattle.stab_symbols.specs.declared.tree.Num.TheVariants.{Plain, Pair}
+use Rattle.stab_symbols.specs.declared.tree.Descriptor.TheVariants as descriptors
+use Rattle.stab_symbols.specs.declared.tree.Symbol.{Symbol}
+use Rattle.stab_symbols.specs.declared.tree.TypeTree.TheVariants.{Ref, rolls-Ref}
+use Rattle.stab_symbols.specs.declared.tree.TypeTree.TheOpen.{TypeTree-F, Field-F}
+use Rattle.stab_symbols.specs.declared.tree.TypeTree.TheFolds.{fold-TypeTree, fold-roll-TypeTree}
+use Rattle.unit_outlines.specs.declared.outline_types.UnitSpan.{UnitSpan}
 use Rattle.stab_units.specs.declared.unit.ItemText.{ItemText}
 use Rattle.stab_units.specs.declared.unit.ItemText.TheVariants as texts
-use Rattle.stab_units.specs.Outlines.{units_of}
+use Rattle.unit_outlines.specs.Outlines.{units_of}
 use Rattle.stab_units.specs.Units.{Filed, Stab, stabs_of, unit_of}
 use Rattle.bincl_match.specs.declared.range.RangeOf.{RangeOf}
 use Rattle.bincl_match.specs.Sums.{without_files}

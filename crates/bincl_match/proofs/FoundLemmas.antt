@@ -3,12 +3,12 @@ use Rattle.std.proofs.Common.{◌≡◌, ℕ, suc, ◌+◌, ◌<◌, ◌≤◌, 
 use Rattle.std.proofs.Math.ListN.{length-append}
 use Rattle.std.proofs.lemmas.List.{length-map}
 use Rattle.nlist_codec.specs.declared.named.Named.{Named}
-use Rattle.stab_units.specs.declared.outline_types.HeaderMark.{HeaderMark}
-use Rattle.stab_units.specs.declared.outline_types.UnitSpan.{UnitSpan}
+use Rattle.unit_outlines.specs.declared.outline_types.HeaderMark.{HeaderMark}
+use Rattle.unit_outlines.specs.declared.outline_types.UnitSpan.{UnitSpan}
 use Rattle.stab_units.specs.declared.unit.HeaderFile.{HeaderFile}
 use Rattle.stab_units.specs.declared.unit.Unit.{Unit}
-use Rattle.stab_units.specs.Words.{behind_first}
-use Rattle.stab_units.specs.Outlines.{units_of}
+use Rattle.unit_outlines.specs.EntryWords.{behind_first}
+use Rattle.unit_outlines.specs.Outlines.{units_of}
 use Rattle.stab_units.specs.Units.{AreUnitsOf, Filed, MakesUnit, Stab, header_name}
 use Rattle.bincl_match.specs.declared.range.RangeOf.{RangeOf}
 use Rattle.bincl_match.specs.Ranges.{AreFound, AreFoundButUnits, AreItems, in_unit, is_typed, range_of, ranges_from, typed_ranges, unit_ranges}

@@ -5,21 +5,21 @@ use Rattle.std.specs.Prelude.{◌&&◌, ⊤, filter, flat_map, is_some}
 use Rattle.std.proofs.lemmas.List.{map-append}
 use Rattle.nlist_codec.specs.declared.named.Named.{Named}
 use Rattle.stab_codes.specs.Table.{carries_symbol}
-use Rattle.stab_grammar.specs.declared.tree.Symbol.{Symbol}
+use Rattle.stab_symbols.specs.declared.tree.Symbol.{Symbol}
 use Rattle.stab_grammar.specs.StringFaults.{IsSpelling}
-use Rattle.stab_units.specs.declared.outline_types.HeaderMark.{HeaderMark}
-use Rattle.stab_units.specs.declared.outline_types.Marks.{Marks}
-use Rattle.stab_units.specs.declared.outline_types.Marks.TheVariants.{Object}
-use Rattle.stab_units.specs.declared.outline_types.UnitSpan.{UnitSpan}
+use Rattle.unit_outlines.specs.declared.outline_types.HeaderMark.{HeaderMark}
+use Rattle.unit_outlines.specs.declared.outline_types.Marks.{Marks}
+use Rattle.unit_outlines.specs.declared.outline_types.Marks.TheVariants.{Object}
+use Rattle.unit_outlines.specs.declared.outline_types.UnitSpan.{UnitSpan}
 use Rattle.stab_units.specs.declared.unit.HeaderFile.{HeaderFile}
 use Rattle.stab_units.specs.declared.unit.ItemText.{ItemText}
 use Rattle.stab_units.specs.declared.unit.Unit.{Unit}
 use Rattle.stab_units.specs.HeaderUnits.{FileStab, HeaderUnit, file_stab, has_headers, header_unit, header_units, with_headers}
 use Rattle.stab_units.specs.Joining.{AreAlike}
-use Rattle.stab_units.specs.Outlines.{OutlineFault, units_of}
+use Rattle.unit_outlines.specs.Outlines.{OutlineFault, units_of}
 use Rattle.stab_units.specs.Units.{AreRead, Filed, IsTextOf, Stab, file_of, files_from, header_name, stabs_of, symbols_at, unit_of}
-use Rattle.stab_units.specs.Words.{next}
-use Rattle.stab_units.specs.Worlds.{AreUnits}
+use Rattle.unit_outlines.specs.EntryWords.{next}
+use Rattle.stab_units.specs.ObjectUnits.{AreUnits}
 use Rattle.bincl_match.specs.declared.range.RangeOf.{RangeOf}
 use Rattle.bincl_match.specs.Ranges.{AreFound, AreFoundButUnits, AreItems, in_unit, is_typed, is_typed_at, range_of, ranges_from, typed_ranges, unit_ranges}
 use Rattle.bincl_match.specs.Reading.{units_with}

@@ -6,18 +6,18 @@ use Rattle.std.proofs.lemmas.Bool.{cases_lt}
 use Rattle.st_base.specs.declared.fault.Fault.{Fault}
 use Rattle.nlist_codec.specs.declared.named.Named.{Named}
 use Rattle.stab_codes.specs.Table.{carries_symbol}
-use Rattle.stab_grammar.specs.declared.tree.Symbol.{Symbol}
+use Rattle.stab_symbols.specs.declared.tree.Symbol.{Symbol}
 use Rattle.stab_grammar.specs.StringFaults.{IsSpelling}
-use Rattle.stab_units.specs.declared.outline_types.Marks.TheVariants.{Object}
-use Rattle.stab_units.specs.declared.outline_types.UnitSpan.{UnitSpan}
+use Rattle.unit_outlines.specs.declared.outline_types.Marks.TheVariants.{Object}
+use Rattle.unit_outlines.specs.declared.outline_types.UnitSpan.{UnitSpan}
 use Rattle.stab_units.specs.declared.unit.HeaderFile.{HeaderFile}
 use Rattle.stab_units.specs.declared.unit.ItemText.{ItemText}
 use Rattle.stab_units.specs.declared.unit.ItemText.TheVariants as texts
 use Rattle.stab_units.specs.declared.unit.Unit.{Unit}
-use Rattle.stab_units.specs.Words.{behind_first}
-use Rattle.stab_units.specs.Outlines.{OutlineFault, units_of}
+use Rattle.unit_outlines.specs.EntryWords.{behind_first}
+use Rattle.unit_outlines.specs.Outlines.{OutlineFault, units_of}
 use Rattle.stab_units.specs.Units.{Stab, Filed, AreRead, AreUnitsOf, IsRead, IsTextOf, item_of, stabs_of}
-use Rattle.stab_units.specs.Worlds.{AreUnits, UnitsFault}
+use Rattle.stab_units.specs.ObjectUnits.{AreUnits, UnitsFault}
 use Rattle.bincl_match.specs.declared.range.RangeOf.{RangeOf}
 use Rattle.bincl_match.specs.Lawful.{IsLawful}
 use Rattle.bincl_match.specs.Ranges.{AreFound, AreItems, AreRanges, among, is_repeated, ranges_from, ranges_of, typed_ranges, unit_ranges}

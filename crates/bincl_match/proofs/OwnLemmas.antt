@@ -12,13 +12,13 @@ use Rattle.stab_codes.specs.Table.{carries_symbol}
 use Rattle.nlist_codec.specs.declared.named.Named.{Named}
 use Rattle.stab_units.specs.declared.unit.ItemText.{ItemText}
 use Rattle.stab_units.specs.declared.unit.ItemText.TheVariants as texts
-use Rattle.stab_units.specs.Words.{next, is_empty}
-use Rattle.stab_units.specs.Runs.{goes, continued, link_at}
-use Rattle.stab_units.specs.Marks.{file_in}
-use Rattle.stab_units.specs.Units.{Stab, Filed, AreRead, IsRead, IsTextOf, begun, has_symbol, is_plain, is_type, is_type_symbol, stab_at, stabs_from, symbols_at, symbols_in}
-use Rattle.stab_units.specs.Sweeps.{Nests}
-use Rattle.stab_units.specs.Walking.{goes_to}
-use Rattle.stab_units.specs.declared.nest.Nest.{Nest}
+use Rattle.unit_outlines.specs.EntryWords.{next, is_empty}
+use Rattle.unit_outlines.specs.Runs.{goes, continued, link_at}
+use Rattle.unit_outlines.specs.Marks.{file_in, is_plain}
+use Rattle.stab_units.specs.Units.{Stab, Filed, AreRead, IsRead, IsTextOf, begun, has_symbol, is_type, is_type_symbol, stab_at, stabs_from, symbols_at, symbols_in}
+use Rattle.unit_outlines.specs.Sweeps.{Nests}
+use Rattle.stab_units.specs.ReadingWalk.{goes_to}
+use Rattle.unit_outlines.specs.declared.nest.Nest.{Nest}
 use Rattle.bincl_match.specs.declared.owning.Owners.{Owners}
 use Rattle.bincl_match.specs.Ranges.{is_typed_at, is_typed}
 use Rattle.bincl_match.specs.Owning.{AreTrue, HasWalked, HasWalkedAll, is_ready_at, is_ready_entry, is_ready_in, names_type}

@@ -5,10 +5,10 @@ use Rattle.std.specs.Prelude.{◌&&◌, flat_map}
 use Rattle.std.specs.List.{list_all, slice_index_or}
 use Rattle.std.proofs.lemmas.List.{length-map}
 use Rattle.nlist_codec.specs.declared.named.Named.{Named}
-use Rattle.stab_units.specs.declared.outline_types.UnitSpan.{UnitSpan}
+use Rattle.unit_outlines.specs.declared.outline_types.UnitSpan.{UnitSpan}
 use Rattle.stab_units.specs.declared.unit.HeaderFile.{HeaderFile}
 use Rattle.stab_units.specs.declared.unit.Unit.{Unit}
-use Rattle.stab_units.specs.Words.{behind_first}
+use Rattle.unit_outlines.specs.EntryWords.{behind_first}
 use Rattle.stab_units.specs.Units.{Stab, Filed, AreRead, MakesUnit, SpansFault, files_from, file_of, header_name, parsed, parsed_in, stabs_from, stabs_of, symbols_at, unit_of}
 use Rattle.bincl_match.specs.declared.range.RangeOf.{RangeOf}
 use Rattle.bincl_match.specs.Ranges.{AreItems, among, is_repeated, is_typed, range_of, ranges_from, typed_ranges, unit_ranges}

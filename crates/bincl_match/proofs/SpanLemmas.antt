@@ -4,11 +4,11 @@ use Rattle.std.specs.Prelude.{◌==◌, ◌&&◌, Option}
 use Rattle.std.proofs.Math.ListN.{length-append}
 use Rattle.stab_codes.specs.declared.code.TheConstants.{N_SO, N_BINCL, N_EXCL}
 use Rattle.nlist_codec.specs.declared.named.Named.{Named}
-use Rattle.stab_units.specs.declared.outline_types.HeaderMark.{HeaderMark}
-use Rattle.stab_units.specs.declared.outline_types.UnitSpan.{UnitSpan}
-use Rattle.stab_units.specs.Words.{next, is_empty, ends_in}
-use Rattle.stab_units.specs.Marks.{mark_at, names_source}
-use Rattle.stab_units.specs.Outlines.{IsOutlined, directory_of, end_number, header_at, headers_from, inside, span_at, span_step, units_from}
+use Rattle.unit_outlines.specs.declared.outline_types.HeaderMark.{HeaderMark}
+use Rattle.unit_outlines.specs.declared.outline_types.UnitSpan.{UnitSpan}
+use Rattle.unit_outlines.specs.EntryWords.{next, is_empty, ends_in}
+use Rattle.unit_outlines.specs.Marks.{mark_at, names_source}
+use Rattle.unit_outlines.specs.Outlines.{IsOutlined, directory_of, end_number, header_at, headers_from, inside, span_at, span_step, units_from}
 use Rattle.bincl_match.proofs.ListLemmas.{none_is, some_is}
 
 -- ---- an entry begins a unit or none

@@ -5,11 +5,11 @@ use Rattle.std.specs.List.{list_all, slice_index_or}
 use Rattle.stab_codes.specs.declared.code.TheConstants.{N_LSYM}
 use Rattle.stab_codes.specs.Table.{carries_symbol}
 use Rattle.nlist_codec.specs.declared.named.Named.{Named}
-use Rattle.stab_grammar.specs.declared.tree.Symbol.{Symbol}
-use Rattle.stab_units.specs.Words.{next}
+use Rattle.stab_symbols.specs.declared.tree.Symbol.{Symbol}
+use Rattle.unit_outlines.specs.EntryWords.{next}
 use Rattle.stab_units.specs.Units.{Stab, has_symbol, is_type_symbol, spells, string_of, stabs_from}
-use Rattle.stab_units.specs.Sweeps.{Nests}
-use Rattle.stab_units.specs.Walking.{goes_to}
+use Rattle.unit_outlines.specs.Sweeps.{Nests}
+use Rattle.stab_units.specs.ReadingWalk.{goes_to}
 use Rattle.bincl_match.specs.declared.owning.Owners.{Owners}
 
 -- ---- own entries

@@ -6,15 +6,15 @@ use Rattle.std.specs.List.{list_all, list_any}
 use Rattle.std.specs.Cmp.Lexicographic.{pointwise}
 use Rattle.stab_codes.specs.declared.code.TheConstants.{N_LSYM}
 use Rattle.nlist_codec.specs.declared.named.Named.{Named}
-use Rattle.stab_grammar.specs.Files.{files_of, shape_of}
-use Rattle.stab_units.specs.declared.outline_types.UnitSpan.{UnitSpan}
+use Rattle.stab_symbols.specs.Files.{files_of, shape_of}
+use Rattle.unit_outlines.specs.declared.outline_types.UnitSpan.{UnitSpan}
 use Rattle.stab_units.specs.declared.unit.HeaderFile.{HeaderFile}
 use Rattle.stab_units.specs.declared.unit.Item.{Item}
 use Rattle.stab_units.specs.declared.unit.Unit.{Unit}
-use Rattle.stab_units.specs.Words.{behind_first}
-use Rattle.stab_units.specs.Outlines.{units_of}
+use Rattle.unit_outlines.specs.EntryWords.{behind_first}
+use Rattle.unit_outlines.specs.Outlines.{units_of}
 use Rattle.stab_units.specs.Units.{Filed, AreRead, is_type, stabs_of}
-use Rattle.stab_units.specs.Worlds.{AreUnits}
+use Rattle.stab_units.specs.ObjectUnits.{AreUnits}
 use Rattle.bincl_match.specs.declared.range.RangeOf.{RangeOf}
 use Rattle.bincl_match.specs.Sums.{sum_of}
 

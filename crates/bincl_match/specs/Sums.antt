@@ -3,8 +3,8 @@
 -- count here is this project's own.
 use Rattle.std.specs.Prelude.{ℕ, ◌%◌, ◌^◌, ◌&&◌, ◌==◌, Bool, false, true, cond, List, [], ◌∷◌, flat_map, sum}
 use Rattle.std.specs.Char.{is_ascii_digit}
-use Rattle.stab_grammar.specs.declared.tree.Symbol.{Symbol}
-use Rattle.stab_grammar.specs.Spelling.{print_symbol}
+use Rattle.stab_symbols.specs.declared.tree.Symbol.{Symbol}
+use Rattle.stab_symbols.specs.SymbolSpelling.{print_symbol}
 
 -- bytes without the decimal digits that directly follow each `(`; the flag says that these bytes directly follow one
 abbrev pub without_files : Bool → List ℕ → List ℕ

@@ -11,7 +11,7 @@ use st_base::{List, Memory};
 use std::alloc::Global;
 use std::collections::{HashMap, HashSet};
 
-// From where on numbers behind the sum are to be tried: all before are taken.
+// From where on numbers above the sum are to be tried: all before are taken.
 fn first_try<'a>(tried: &HashMap<(&'a [u8], u32), u32>, name: &'a [u8], sum: u32) -> u32
     ensures { result ≡ unwrap_or (look_sum tried.now name.now sum) 0 }
 {
@@ -21,7 +21,7 @@ fn first_try<'a>(tried: &HashMap<(&'a [u8], u32), u32>, name: &'a [u8], sum: u32
     }
 }
 
-// How far behind the sum the first number is that the name does not have. There is one, since fewer than 2^32 are taken.
+// How far above the sum the first number is that the name does not have. There is one, since fewer than 2^32 are taken.
 fn free<'a>(taken: &HashSet<(&'a [u8], u32)>, name: &'a [u8], sum: u32, first: u32) -> u32
     requires room { hash_set_len taken.now < 2 ^ 32 }
     requires tried { AreTried (λ v. has_instance taken.now name.now v) sum first }
@@ -53,7 +53,7 @@ pub(crate) fn instances(
     ensures apart { IfOk result (λ out. (i j : ℕ) (x y : SomeRange) → slice_get ranges.now i ≡ Some x → slice_get ranges.now j ≡ Some y → x.name ≡ y.name → slice_index kept.now i ≡ i → slice_index kept.now j ≡ j → i ≢ j → slice_index out i ≢ slice_index out j) }
 {
     let mut taken: HashSet<(&[u8], u32)> = HashSet::new(alloc);
-    // How many numbers behind a sum a name was seen to have, so that equal sums are not tried again.
+    // How many numbers above a sum a name was seen to have, so that equal sums are not tried again.
     let mut tried: HashMap<(&[u8], u32), u32> = HashMap::new(alloc);
     let mut out = List::new(alloc);
     for i in 0..ranges.len() {

@@ -6,11 +6,12 @@ ghost use Rattle.bincl_match.specs.Ranges.{AreFoundButUnits, AreRanges};
 ghost use Rattle.bincl_match.specs.Reading.{unit_numbers};
 
 use crate::beside::all_changed;
+use crate::found::Found;
 use crate::range::RangeOf;
 use crate::reading::told;
 use nlist_codec::Named;
-use st_base::{List, Memory};
-use stab_units::{HeaderMark, Marks, UnitSpan, outline};
+use st_base::{List, Memory, Refused};
+use stab_units::{HeaderMark, Marks, UnitSpan, one_outline, outline};
 use std::alloc::Global;
 
 // Appends the number of a unit for each of its headers.
@@ -35,14 +36,8 @@ fn all_numbers(alloc: Global, spans: &[UnitSpan]) -> Result<List<u32>, Memory>
     Ok(out)
 }
 
-/// The header ranges of entries of which they are known but for the numbers of their units, as where several lists stand one behind
-/// the other. No string is parsed.
-///
-/// `text_end` is the address behind the text, and `found` has the ranges as `find_ranges` finds them, in order, whatever units they
-/// are said to be of. Each unit of the entries takes as many of them as it has headers; then it is told, as by `ranges`, which name
-/// and shape some unit has twice. Entries of which ranges are known have no fault. Takes memory for the ranges; out of memory is its
-/// own answer.
-pub fn join_ranges(
+// The header ranges of entries of which these are known but for the numbers of their units.
+fn join_list(
     alloc: Global,
     entries: &List<Named>,
     text_end: u32,
@@ -54,6 +49,7 @@ pub fn join_ranges(
     ensures lawful { IfOk result (λ ranges. IsLawful ranges) }
     ensures few { IfOk result (λ ranges. length ranges < 2 ^ 32) }
 {
+    one_outline();
     match outline(alloc, entries, text_end, Marks::Object) {
         Ok(spans) => {
             let numbers = all_numbers(alloc, spans.items())?;
@@ -61,6 +57,33 @@ pub fn join_ranges(
             let ranges = told(alloc, placed)?;
             Ok(ranges)
         }
-        Err(_) => Err(Memory),
+        // entries of which ranges are known have no fault
+        Err(Refused::At(_)) => unreachable!(),
+        Err(Refused::Memory) => Err(Memory),
+    }
+}
+
+/// The header ranges of entries of which they are known but for the numbers of their units, as where several lists stand one after
+/// the other. No string is parsed.
+///
+/// `text_end` is the address at which text ends, and `found` has the ranges as `find_ranges` finds them, in order, whatever units they
+/// are said to be of. Each unit of the entries takes as many of them as it has headers; then it is decided, as by `ranges`, which name
+/// and shape some unit has twice. Entries of which ranges are known have no fault. Takes memory for the ranges; out of memory is its
+/// own answer.
+pub fn join_ranges(
+    alloc: Global,
+    entries: &List<Named>,
+    text_end: u32,
+    found: Found,
+) -> Result<List<RangeOf>, Memory>
+    requires few { length entries.now < 2 ^ 32 }
+    requires found { AreFoundButUnits text_end entries.now found }
+    ensures ranges { IfOk result (λ ranges. AreRanges text_end entries.now ranges) }
+    ensures lawful { IfOk result (λ ranges. IsLawful ranges) }
+    ensures few { IfOk result (λ ranges. length ranges < 2 ^ 32) }
+{
+    match join_list(alloc, entries, text_end, found.into_list()) {
+        Ok(ranges) => Ok(ranges),
+        Err(why) => Err(why),
     }
 }

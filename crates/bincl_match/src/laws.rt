@@ -4,7 +4,7 @@ ghost use Rattle.std.specs.Prelude.{◌≡◌, ◌⊎◌, ◌<◌, ◌^◌, ◌+
 ghost use Rattle.st_base.specs.declared.fault.Fault.{Fault};
 ghost use Rattle.nlist_codec.specs.declared.named.Named.{Named};
 ghost use Rattle.stab_units.specs.Joining.{AreAlike};
-ghost use Rattle.stab_units.specs.Worlds.{UnitsFault};
+ghost use Rattle.stab_units.specs.ObjectUnits.{UnitsFault};
 ghost use Rattle.bincl_match.specs.declared.range.Grouping.{Grouping};
 ghost use Rattle.bincl_match.specs.declared.range.RangeOf.{RangeOf};
 ghost use Rattle.bincl_match.specs.Instances.{IsAlone};
@@ -27,7 +27,7 @@ pub fn one_ranges()
     one_units();
 }
 
-/// Entries have at most one list of ranges as they are found. The ranges of two lists of entries, one of which stands behind the other,
+/// Entries have at most one list of ranges as they are found. The ranges of two lists of entries, one of which stands after the other,
 /// are those of the two, but for the numbers of units; entries that are alike have the same, wherever text ends, and no entries have
 /// none. So a list that is put together of many needs no look at a string to be known.
 pub fn found_laws()

@@ -6,7 +6,7 @@
 //! The law that the layers above use: the entries of an object have exactly one list of ranges, in which a unit and a file open one
 //! header at most, and a candidate is the only range of its unit with its name and shape; and a list of ranges has exactly one grouping
 //! by classes, and one in which every range is kept, both of which are mergings. What is found in each of several lists that stand one
-//! behind the other is, but for the numbers of units and for what some unit has twice, what is found in the whole: so a linker looks at
+//! after the other is, but for the numbers of units and for what some unit has twice, what is found in the whole: so a linker looks at
 //! each string once.
 //!
 //! ```text
@@ -23,12 +23,14 @@
 
 mod beside;
 mod crowd;
+mod found;
 mod groups;
 mod instances;
 mod joining;
 mod kinds;
 mod laws;
 mod matching;
+mod mode;
 mod owning;
 mod prepare;
 mod prepared;
@@ -38,9 +40,11 @@ mod refine;
 mod sums;
 mod unit_ranges;
 
+pub use found::Found;
 pub use instances::{alone, instance_of, kept_of};
 pub use joining::join_ranges;
 pub use laws::{found_laws, matching_laws, merging_laws, one_alone, one_classes, one_ranges};
 pub use matching::classes;
+pub use mode::Mode;
 pub use range::{Grouping, RangeOf};
 pub use reading::{find_ranges, ranges};

@@ -1,19 +1,19 @@
 //! Whether the own entries of each file are N_LSYM entries with a symbol, found in one walk over the entries of a unit. That these
-//! symbols name types is told by the symbols of the file.
+//! symbols name types is seen in the symbols of the file.
 
 ghost use Rattle.std.specs.Prelude.{◌≡◌, ◌≢◌, ◌+◌, ◌<◌, ◌≤◌, ◌^◌, ◌∷◌, ◌&&◌, ◌||◌, ◌==◌, [], ℕ, List, Bool, true, false, cond, not, length, IfOk, OnOk};
 ghost use Rattle.std.specs.List.{slice_index_or};
 ghost use Rattle.stab_codes.specs.declared.code.TheConstants.{N_SO};
 ghost use Rattle.nlist_codec.specs.declared.named.Named.{Named as SomeNamed};
-ghost use Rattle.stab_units.specs.Units as units;
+ghost use Rattle.unit_outlines.specs.Marks as marks;
 ghost use Rattle.stab_units.specs.Units.{stabs_from};
 ghost use Rattle.bincl_match.specs.Owning.{AreReady, AreTrue, HasWalked, HasWalkedAll, is_ready_entry, is_ready_in};
 
-use crate::kinds::{goes_on, is_plain, is_ready};
+use crate::kinds::is_ready;
 use nlist_codec::Named;
 use st_base::{List, Memory};
 use stab_codes::N_SO;
-use stab_units::Nest;
+use stab_units::{Nest, goes_on, is_plain};
 use std::alloc::Global;
 
 /// What is kept of the entries that were walked over.
@@ -49,7 +49,7 @@ fn note(flags: &mut List<bool>, file: u64, ready: bool)
 
 // Whether an entry begins a stab, where the one before it goes on with it or not.
 fn begins_stab(kind: u8, going: bool) -> bool
-    ensures { result ≡ (units.is_plain kind && not going) }
+    ensures { result ≡ (marks.is_plain kind && not going) }
 {
     is_plain(kind) && !going
 }

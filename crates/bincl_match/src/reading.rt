@@ -3,17 +3,18 @@
 ghost use Rattle.std.specs.Prelude.{◌≡◌, ◌+◌, ◌<◌, ◌≤◌, ◌^◌, ℕ, Err, Some, None, length, map, slice_get, IfOk, OnOk};
 ghost use Rattle.st_base.specs.declared.fault.Fault.{Fault};
 ghost use Rattle.st_base.specs.declared.fault.Refused.{Refused};
-ghost use Rattle.stab_units.specs.declared.outline_types.UnitSpan.{UnitSpan as SomeSpan};
-ghost use Rattle.stab_units.specs.declared.outline_types.Marks.TheVariants.{Object};
-ghost use Rattle.stab_units.specs.Outlines.{IsOutlined, OutlineFault, units_of};
+ghost use Rattle.unit_outlines.specs.declared.outline_types.UnitSpan.{UnitSpan as SomeSpan};
+ghost use Rattle.unit_outlines.specs.declared.outline_types.Marks.TheVariants.{Object};
+ghost use Rattle.unit_outlines.specs.Outlines.{IsOutlined, OutlineFault, units_of};
 ghost use Rattle.stab_units.specs.Units.{SpansFault, UnitFault, parsed, parsed_in, stabs_of};
-ghost use Rattle.stab_units.specs.Worlds.{UnitsFault, strings_in};
+ghost use Rattle.stab_units.specs.ObjectUnits.{UnitsFault, strings_in};
 ghost use Rattle.bincl_match.specs.Lawful.{IsLawful};
 ghost use Rattle.bincl_match.specs.Ranges.{AreFound, AreRanges, among};
 ghost use Rattle.bincl_match.specs.Reading.{AreTyped, HasRanges};
 
 use crate::beside::all_changed;
 use crate::crowd::crowded;
+use crate::found::Found;
 use crate::range::RangeOf;
 use crate::unit_ranges::put_unit;
 use nlist_codec::Named;
@@ -107,15 +108,8 @@ fn span_ranges<L: Ledger>(
     }
 }
 
-/// The header ranges of the entries of an object as they are found: in image order, unit by unit, and in a unit by the numbers of the
-/// files.
-///
-/// `text_end` is the address behind the text. A range is the header that an N_BINCL opens, with the shapes, files and sum of the
-/// symbols of its file. It is a candidate exactly where each stab of its file, header marks apart, is that of an N_LSYM type symbol
-/// (`t`, `T` or `Tt`), whatever other ranges there are. Refused with the fault of the outline, else with the fault of the first string
-/// that spells no symbol, as by `units`. One step is taken for each string that is parsed. Takes memory for the ranges, and for one
-/// unit at a time; out of memory is its own answer. After "The stabs debug format"; shapes, sums and candidates are this project's own.
-pub fn find_ranges<L: Ledger>(
+// The header ranges of the entries of an object as they are found.
+fn find_list<L: Ledger>(
     alloc: Global,
     entries: &List<Named>,
     text_end: u32,
@@ -131,6 +125,31 @@ pub fn find_ranges<L: Ledger>(
             Ok(ranges) => Ok(ranges),
             Err(refusal) => Err(refusal),
         },
+        Err(refusal) => Err(refusal),
+    }
+}
+
+/// The header ranges of the entries of an object as they are found: in image order, unit by unit, and in a unit by the numbers of the
+/// files.
+///
+/// `text_end` is the address at which text ends. A range is the header that an N_BINCL opens, with the shapes, files and sum of the
+/// symbols of its file. It is a candidate exactly where each stab of its file, header marks apart, is that of an N_LSYM type symbol
+/// (`t`, `T` or `Tt`), whatever other ranges there are. Refused with the fault of the outline, else with the fault of the first string
+/// that spells no symbol, as by `units`. One step is taken for each string that is parsed. Takes memory for the ranges, and for one
+/// unit at a time; out of memory is its own answer. After "The stabs debug format"; shapes, sums and candidates are this project's own.
+pub fn find_ranges<L: Ledger>(
+    alloc: Global,
+    entries: &List<Named>,
+    text_end: u32,
+    steps: &mut Steps<L>,
+) -> Result<Found, Refused>
+    requires { length entries.now < 2 ^ 32 }
+    ensures found { IfOk result (λ ranges. AreFound text_end entries.now ranges) }
+    ensures refused { (f : Fault) → result ≡ Err (Refused.At f) → UnitsFault text_end entries.now f }
+    ensures ticks { IfOk result (λ ranges. steps.new ≡ steps.old + strings_in text_end entries.now) }
+{
+    match find_list(alloc, entries, text_end, steps) {
+        Ok(ranges) => Ok(Found::of(ranges)),
         Err(refusal) => Err(refusal),
     }
 }
@@ -151,7 +170,7 @@ pub fn ranges<L: Ledger>(
     ensures refused { (f : Fault) → result ≡ Err (Refused.At f) → UnitsFault text_end entries.now f }
     ensures ticks { IfOk result (λ ranges. steps.new ≡ steps.old + strings_in text_end entries.now) }
 {
-    match find_ranges(alloc, entries, text_end, steps) {
+    match find_list(alloc, entries, text_end, steps) {
         Ok(found) => match told(alloc, found) {
             Ok(ranges) => Ok(ranges),
             Err(_) => Err(Refused::Memory),

@@ -2,9 +2,8 @@
 
 ghost use Rattle.std.specs.Prelude.{◌≡◌, ◌+◌, ◌<◌, ◌≤◌, ◌^◌, ◌&&◌, ◌++◌, length, map, flat_map, IfOk, OnOk};
 ghost use Rattle.std.specs.List.{list_all};
-ghost use Rattle.stab_grammar.specs.Files.{files_of, shape_of};
-ghost use Rattle.stab_units.specs.Words.{behind_first};
-ghost use Rattle.stab_units.specs.Units as units;
+ghost use Rattle.stab_symbols.specs.Files.{files_of, shape_of};
+ghost use Rattle.unit_outlines.specs.EntryWords.{behind_first};
 ghost use Rattle.stab_units.specs.Units.{IsUnitOf, stabs_of};
 ghost use Rattle.bincl_match.specs.Ranges as spec;
 ghost use Rattle.bincl_match.specs.Owning.{names_type};
@@ -15,20 +14,11 @@ use crate::range::RangeOf;
 use crate::sums::sum_of;
 use nlist_codec::Named;
 use st_base::{List, Memory, Text};
-use stab_grammar::{Descriptor, Symbol, numbers, shape};
-use stab_units::{HeaderFile, Unit, UnitSpan};
+use stab_grammar::{Symbol, numbers, shape};
+use stab_units::{HeaderFile, Unit, UnitSpan, is_type};
 use std::alloc::Global;
 
 // ---- symbols
-
-fn is_type(descriptor: Descriptor) -> bool
-    ensures { result ≡ units.is_type_symbol descriptor }
-{
-    match descriptor {
-        Descriptor::Typedef | Descriptor::Tag | Descriptor::TagTypedef => true,
-        _ => false,
-    }
-}
 
 // Whether all symbols name types.
 fn all_name_types(symbols: &[Symbol]) -> bool

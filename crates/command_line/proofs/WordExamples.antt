@@ -4,7 +4,7 @@ use Rattle.std.specs.Prelude.{codes}
 use Rattle.std.specs.Str.{bytes_eq, is_utf8}
 use Rattle.query_text.specs.declared.query.Query.TheVariants.{TagNamed, Units}
 use Rattle.query_text.specs.Queries.{form_from}
-use Rattle.aout_link.specs.declared.linking.Mode.TheVariants as modes
+use Rattle.bincl_match.specs.declared.mode.Mode.TheVariants as modes
 use Rattle.command_line.specs.declared.command.Command.TheVariants as commands
 use Rattle.command_line.specs.declared.command.Asked.TheVariants as asks
 use Rattle.readers.specs.Words.{number_at, digits_on}

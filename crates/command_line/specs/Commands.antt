@@ -1,12 +1,11 @@
 -- The commands: the words of each, the files that it reads and the one that it stores. This is this project's own.
 use Rattle.std.specs.Prelude.{◌≡◌, ℕ, ◌+◌, max, List, [], ◌∷◌, length, take, drop, Option, Some, None, unwrap_or, Contains, Result, Ok, Err}
-use Rattle.st_base.specs.declared.sizes.TheConstants.{FILE_LIMIT}
-use Rattle.stabs_asm.specs.declared.limits.TheConstants.{SOURCE_LIMIT}
+use Rattle.st_base.specs.declared.sizes.TheConstants.{FILE_LIMIT, SOURCE_LIMIT}
 use Rattle.command_line.specs.declared.limits.TheConstants.{OBJECT_LIMIT}
 use Rattle.st_base.specs.declared.order.Order.{Order}
 use Rattle.st_base.specs.declared.order.Order.TheVariants.{Little}
-use Rattle.aout_link.specs.declared.linking.Mode.{Mode}
-use Rattle.aout_link.specs.declared.linking.Mode.TheVariants.{Keep}
+use Rattle.bincl_match.specs.declared.mode.Mode.{Mode}
+use Rattle.bincl_match.specs.declared.mode.Mode.TheVariants.{Keep}
 use Rattle.query_text.specs.declared.query.Query.{Query}
 use Rattle.query_text.specs.Queries as queries
 use Rattle.command_line.specs.declared.words.Want.{Want}

@@ -5,8 +5,8 @@ use Rattle.st_base.specs.declared.order.Order.{Order}
 use Rattle.st_base.specs.declared.order.Order.TheVariants as orders
 use Rattle.query_text.specs.Places.{is_text, wrong_place}
 use Rattle.query_text.specs.Words.{spelled_address}
-use Rattle.aout_link.specs.declared.linking.Mode.{Mode}
-use Rattle.aout_link.specs.declared.linking.Mode.TheVariants as modes
+use Rattle.bincl_match.specs.declared.mode.Mode.{Mode}
+use Rattle.bincl_match.specs.declared.mode.Mode.TheVariants as modes
 use Rattle.command_line.specs.declared.words.Keyword.{Keyword}
 use Rattle.command_line.specs.declared.words.Keyword.TheVariants as keywords
 use Rattle.command_line.specs.declared.words.Operand.{Operand}

@@ -8,10 +8,9 @@ use crate::words::{
     Keyword, Operand, Want, base_of, first_no_text, mode_of, objects_end, order_of, text_of,
     word_of, wrong_front,
 };
-use aout_link::Mode;
+use bincl_match::Mode;
 use query_text::{Query, read_query};
-use st_base::{FILE_LIMIT, List, Memory, Order, Refused, Text};
-use stabs_asm::SOURCE_LIMIT;
+use st_base::{FILE_LIMIT, List, Memory, Order, Refused, SOURCE_LIMIT, Text};
 use std::alloc::Global;
 
 /// A command with its operands.

@@ -3,7 +3,7 @@
 ghost use Rattle.std.specs.Prelude.{◌≡◌, ◌≤◌, ◌<◌, IfOk, length, take, drop};
 ghost use Rattle.command_line.specs.Words as spec;
 
-use aout_link::Mode;
+use bincl_match::Mode;
 use query_text::{Wanted, address_of, is_text, wrong_place};
 use st_base::{Memory, Order, Text};
 use std::alloc::Global;

@@ -4,7 +4,7 @@ use Rattle.std.specs.Prelude.{codes}
 use Rattle.std.proofs.lemmas.Fmt.{decimal_digit}
 use Rattle.stab_codes.specs.declared.code.TheConstants.{N_SO, N_LSYM, N_BINCL, N_EINCL, N_EXCL}
 use Rattle.nlist_codec.specs.declared.named.Named.{Named}
-use Rattle.stab_grammar.specs.declared.tree.Symbol.{Symbol}
+use Rattle.stab_symbols.specs.declared.tree.Symbol.{Symbol}
 use Rattle.stab_units.specs.declared.unit.HeaderFile.{HeaderFile}
 use Rattle.stab_units.specs.declared.unit.Unit.{Unit as UnitOf}
 use Rattle.type_graph.specs.declared.world.World.{World}

@@ -39,15 +39,16 @@ use Rattle.header_merge.proofs.FrontLemmas.{all_append}
 use Rattle.aout_link.specs.Sources.{Source, IsLawful}
 use Rattle.aout_link.specs.Linking.{IsGroupingOf, IsLinked, image_placed}
 use Rattle.aout_link.specs.Moves.{all_moves, fronts}
-use Rattle.aout_link.specs.Tables.{known_of, known_by, definitions, is_definition, moved_entry, moved_all, moved_value, common_at, placed_commons, common_sizes, bss_end, names_table}
+use Rattle.nlist_codec.specs.Kinds.{defines_name}
+use Rattle.aout_link.specs.Tables.{known_of, known_by, definitions, moved_entry, moved_all, moved_value, common_at, placed_commons, common_sizes, bss_end, names_table}
 use Rattle.aout_link.specs.Placing.{Frame, placed_entry, placed_all, with_known, amount, relocated, zeros_for, text_of, data_of, text_frame, data_frame, text_part, data_part, texts, datas, IsPlaced}
 use Rattle.aout_link.specs.Making.{CanBeMade, parts_of, image_of, size_fault}
 use Rattle.aout_link.specs.declared.definitions.Known.{Known}
 use Rattle.aout_link.specs.declared.moves.Moves.{Moves}
 use Rattle.aout_link.specs.declared.placed.Placed.{Placed}
 use Rattle.aout_link.specs.declared.linking.Image.{Image}
-use Rattle.aout_link.specs.declared.linking.Mode.{Mode}
-use Rattle.aout_link.specs.declared.linking.Mode.TheVariants.{Keep, Merge}
+use Rattle.bincl_match.specs.declared.mode.Mode.{Mode}
+use Rattle.bincl_match.specs.declared.mode.Mode.TheVariants.{Keep, Merge}
 use Rattle.aout_link.proofs.MergedLemmas.{all_changed, can_merged}
 use Rattle.aout_link.proofs.MakingLemmas.{can_be_made, no_kind_fault}
 use Rattle.file_commands.specs.Objects.{Each, Spells, IsSource}
@@ -104,7 +105,7 @@ named_fields strings (e ∷ entries) are fit = (
 )
 
 -- what the file of an object holds
-object_fields : (object : Object) (bytes : List ℕ) → IsBytes bytes → ObjectSpells object bytes → HoldsFields (record { parts = object.parts; named = named_of object })
+object_fields : (object : Object) (bytes : List ℕ) → IsBytes bytes → ObjectSpells object bytes → HoldsFields (record { object = object; parts = object.parts; named = named_of object })
 object_fields object bytes are spells =
     let big = is_big object.parts.order in
     let strings_behind = entries_bytes big object.entries ++ object.strings in
@@ -170,9 +171,9 @@ all_moved_fields (m ∷ ms) (o ∷ os) h = all_append HasFields (map (moved_entr
 
 definitions_fit : (ns : List Named) → AllByRecursion HasFields ns → AllByRecursion EntryKnown (definitions ns)
 definitions_fit [] h = tt
-definitions_fit (n ∷ ns) h = by (is_definition n.kind) (definitions_fit ns h.1)
+definitions_fit (n ∷ ns) h = by (defines_name n.kind) (definitions_fit ns h.1)
   where
-    by : (b : Bool) → AllByRecursion EntryKnown (definitions ns) → AllByRecursion EntryKnown (map known_of (cond b (n ∷ filter (λ x. is_definition x.kind) ns) (filter (λ x. is_definition x.kind) ns)))
+    by : (b : Bool) → AllByRecursion EntryKnown (definitions ns) → AllByRecursion EntryKnown (map known_of (cond b (n ∷ filter (λ x. defines_name x.kind) ns) (filter (λ x. defines_name x.kind) ns)))
     by true rest = (record { kind = h.0.kind; value = h.0.value }, rest)
     by false rest = rest
 

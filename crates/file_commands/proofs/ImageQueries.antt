@@ -27,8 +27,8 @@ use Rattle.aout_link.specs.Refusals.{list_fault}
 use Rattle.aout_link.specs.Sources.{Source, IsLawful, HasUnits}
 use Rattle.aout_link.specs.Tables.{entries_of}
 use Rattle.aout_link.specs.declared.linking.Image.{Image}
-use Rattle.aout_link.specs.declared.linking.Mode.{Mode}
-use Rattle.aout_link.specs.declared.linking.Mode.TheVariants.{Merge}
+use Rattle.bincl_match.specs.declared.mode.Mode.{Mode}
+use Rattle.bincl_match.specs.declared.mode.Mode.TheVariants.{Merge}
 use Rattle.command_line.specs.declared.command.Asked.{Asked}
 use Rattle.command_line.specs.declared.command.Asked.TheVariants as asks
 use Rattle.command_line.specs.declared.command.Command.{Command}

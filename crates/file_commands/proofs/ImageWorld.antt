@@ -7,7 +7,7 @@ use Rattle.unit_index.specs.Expanding.{IsExpanded}
 use Rattle.aout_link.specs.Sources.{Source}
 use Rattle.aout_link.specs.Linking.{IsLinked, image_end}
 use Rattle.aout_link.specs.declared.linking.Image.{Image}
-use Rattle.aout_link.specs.declared.linking.Mode.{Mode}
+use Rattle.bincl_match.specs.declared.mode.Mode.{Mode}
 use Rattle.file_commands.specs.Asking.{end_of}
 use Rattle.file_commands.specs.Replies.{text_end}
 

@@ -1,6 +1,7 @@
 pub mod DumpLemmas
 pub mod WorldLemmas
 pub mod LineLemmas
+pub mod LoadLemmas
 pub mod PlainLemmas
 pub mod ReplyLemmas
 pub mod EachLemmas

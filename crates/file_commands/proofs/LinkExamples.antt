@@ -44,7 +44,7 @@ second_bad = inr (((5, refl), inl ((refl, refl))))
 
 module _ (parts : Parts) (n : Named) where
   abbrev lone : Source
-  lone = record { parts = parts; named = n ∷ [] }
+  lone = record { object = record { parts = parts; entries = []; strings = [] }; parts = parts; named = n ∷ [] }
 
   -- fault 92 tells the name of entry 0 of object 1
   a_name : list_outcome (lone ∷ lone ∷ []) (fault_in UNDEFINED 1 0) ≡ list_refused_at (fault_in UNDEFINED 1 0) n.name

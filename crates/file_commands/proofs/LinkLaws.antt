@@ -14,7 +14,7 @@ use Rattle.aout_object.specs.Objects.{Contents as Object}
 use Rattle.aout_object.specs.Checks.{FileFault}
 use Rattle.aout_object.proofs.NameLemmas.{names-whole}
 use Rattle.stab_units.specs.declared.unit.Unit.{Unit as UnitOf}
-use Rattle.stab_units.specs.Worlds.{AreUnits, UnitsFault}
+use Rattle.stab_units.specs.ObjectUnits.{AreUnits, UnitsFault}
 use Rattle.type_graph.specs.declared.world.World.{World}
 use Rattle.unit_index.specs.Expanding.{IsExpanded}
 use Rattle.query_text.specs.declared.query.Query.{Query}
@@ -23,8 +23,8 @@ use Rattle.aout_link.specs.Sources.{Source, IsLawful, HasUnits}
 use Rattle.aout_link.specs.Linking.{IsLinked, RefusesLink}
 use Rattle.aout_link.specs.Tables.{entries_of}
 use Rattle.aout_link.specs.declared.linking.Image.{Image}
-use Rattle.aout_link.specs.declared.linking.Mode.{Mode}
-use Rattle.aout_link.specs.declared.linking.Mode.TheVariants.{Merge}
+use Rattle.bincl_match.specs.declared.mode.Mode.{Mode}
+use Rattle.bincl_match.specs.declared.mode.Mode.TheVariants.{Merge}
 use Rattle.aout_link.proofs.SourceLemmas.{lawful_of}
 use Rattle.file_commands.specs.declared.outcome.Outcome.{Outcome}
 use Rattle.file_commands.specs.declared.outcome.TheConstants.{DONE}
@@ -39,15 +39,17 @@ use Rattle.file_commands.proofs.ImageWorld.{has_world}
 
 -- ---- one source
 
--- sources with the same parts and the same entries
-source_of : (ps qs : Parts) (ns ms : List Named) → ps ≡ qs → ns ≡ ms → let s : Source = record { parts = ps; named = ns } in s ≡ record { parts = qs; named = ms }
-source_of ps qs ns ms p q =
-    let first = ap (λ (z : Parts). let s : Source = record { parts = z; named = ns } in s) p in
-    let second = ap (λ (z : List Named). let s : Source = record { parts = qs; named = z } in s) q in
-    first ∙ second
+-- sources of the same object, with the same parts and the same entries
+source_of : (x y : Object) (ps qs : Parts) (ns ms : List Named) → x ≡ y → ps ≡ qs → ns ≡ ms
+    → let s : Source = record { object = x; parts = ps; named = ns } in s ≡ record { object = y; parts = qs; named = ms }
+source_of x y ps qs ns ms o p q =
+    let first = ap (λ (z : Object). let s : Source = record { object = z; parts = ps; named = ns } in s) o in
+    let second = ap (λ (z : Parts). let s : Source = record { object = y; parts = z; named = ns } in s) p in
+    let third = ap (λ (z : List Named). let s : Source = record { object = y; parts = qs; named = z } in s) q in
+    first ∙ second ∙ third
 
 one_source : (object : Object) (s other : Source) → IsSource object s → IsSource object other → s ≡ other
-one_source object s other p q = source_of s.parts other.parts s.named other.named (p.parts ∙ sym q.parts) (p.named ∙ sym q.named)
+one_source object s other p q = source_of s.object other.object s.parts other.parts s.named other.named (p.given ∙ sym q.given) (p.parts ∙ sym q.parts) (p.named ∙ sym q.named)
 
 -- the entries of a source have units, as those of its object
 units_of : (object : Object) (s : Source) → IsSource object s → (units : List UnitOf) × AreUnits (text_end object) (named_of object) units
@@ -116,7 +118,8 @@ module _ (one_fault : (end : ℕ) (entries : List Named) (f g : Fault) → Units
 source_lawful : (object : Object) (text : List ℕ) (s : Source) → ObjectSpells object text → IsSource object s → IsLawful s
 source_lawful object text s spells is =
     let lawful = lawful_of object (named_of object) refl (names-whole object.strings object.entries) spells.fits in
-    let same : ◌≡◌ {A = Source} (record { parts = object.parts; named = named_of object }) s = source_of object.parts s.parts (named_of object) s.named (sym is.parts) (sym is.named) in
+    let same : ◌≡◌ {A = Source} (record { object = object; parts = object.parts; named = named_of object }) s =
+    source_of object s.object object.parts s.parts (named_of object) s.named (sym is.given) (sym is.parts) (sym is.named) in
     subst IsLawful same lawful
 
 pub sources_lawful : (texts : List (List ℕ)) (objects : List Object) (sources : List Source) → Each Spells texts objects → Each IsSource objects sources → AllByRecursion IsLawful sources
@@ -153,8 +156,8 @@ module _ (some : (end : ℕ) (entries : List Named) → ((units : List UnitOf) �
     by_units : ((units : List UnitOf) × AreUnits (text_end object) (named_of object) units) ⊎ ((f : Fault) × UnitsFault (text_end object) (named_of object) f)
         → ((s : Source) × IsSource object s) ⊎ ((f : Fault) × HasNoUnits object f)
     by_units (inl u) =
-        let s : Source = record { parts = object.parts; named = named_of object } in
-        inl ((s, record { parts = refl; named = refl; units = u }))
+        let s : Source = record { object = object; parts = object.parts; named = named_of object } in
+        inl ((s, record { given = refl; parts = refl; named = refl; units = u }))
     by_units (inr f) = inr f
 
   -- sources that a link takes

@@ -8,14 +8,14 @@ use Rattle.aout_object.specs.Objects.{ObjectSpells, named_of}
 use Rattle.aout_object.specs.Objects.{Contents as Object}
 use Rattle.aout_object.specs.Checks.{FileFault}
 use Rattle.stab_units.specs.declared.unit.Unit.{Unit}
-use Rattle.stab_units.specs.Worlds.{AreUnits, UnitsFault}
+use Rattle.stab_units.specs.ObjectUnits.{AreUnits, UnitsFault}
 use Rattle.type_graph.specs.declared.world.World.{World}
 use Rattle.unit_index.specs.Expanding.{IsExpanded, ExpandFault}
 use Rattle.st_base.specs.declared.fault.Refused.TheVariants as refusals
 use Rattle.aout_link.specs.Sources.{Source}
 use Rattle.aout_link.specs.Linking.{IsLinked, RefusesLink}
 use Rattle.aout_link.specs.declared.linking.Image.{Image}
-use Rattle.aout_link.specs.declared.linking.Mode.{Mode}
+use Rattle.bincl_match.specs.declared.mode.Mode.{Mode}
 use Rattle.query_text.specs.declared.query.Query.{Query}
 use Rattle.query_text.specs.Replies as replies
 use Rattle.command_line.specs.declared.command.Command.{Command}

@@ -26,7 +26,7 @@ use Rattle.command_line.specs.Words.{first}
 use Rattle.file_commands.specs.Outcomes.{printed, limit, refused, list_refused, list_refused_at, kept, kept_with, is_status}
 use Rattle.file_commands.specs.Inputs.{name_at}
 use Rattle.aout_link.specs.Sources.{Source}
-use Rattle.aout_link.specs.declared.linking.Mode.{Mode}
+use Rattle.bincl_match.specs.declared.mode.Mode.{Mode}
 use Rattle.file_commands.specs.Objects.{OnEach}
 use Rattle.file_commands.specs.Linking.{image_text, entry_name, is_about_name, list_outcome, LinksSources, LinksObjects}
 use Rattle.file_commands.specs.Asking.{AsksSources, AsksObjects}

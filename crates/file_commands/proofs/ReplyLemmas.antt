@@ -1,10 +1,10 @@
 -- What is replied on the bytes of files, from what was said on their objects, or on the worlds of these.
-use Rattle.std.proofs.Common.{◌≡◌, ℕ, inl, inr, List, Result, Ok, Err, sym, subst}
+use Rattle.std.proofs.Common.{◌≡◌, ℕ, inl, inr, List, Result, Ok, Err, sym, ap, subst, ◌∙◌}
 use Rattle.std.specs.Prelude.{IfOk}
 use Rattle.st_base.specs.declared.fault.Fault.{Fault}
 use Rattle.nlist_codec.specs.declared.named.Named.{Named}
 use Rattle.aout_object.specs.Objects.{named_of}
-use Rattle.unit_index.specs.Expanding.{ExpandFault}
+use Rattle.unit_index.specs.Expanding.{IsExpanded, ExpandFault}
 use Rattle.aout_object.specs.Objects.{Contents as Object}
 use Rattle.type_graph.specs.declared.world.World.{World}
 use Rattle.query_text.specs.declared.query.Query.{Query}
@@ -12,17 +12,26 @@ use Rattle.command_line.specs.declared.command.Command.{Command}
 use Rattle.command_line.specs.declared.command.Command.TheVariants as commands
 use Rattle.file_commands.specs.declared.outcome.Outcome.{Outcome}
 use Rattle.command_line.specs.Words.{first}
-use Rattle.file_commands.specs.Outcomes.{refused}
-use Rattle.aout_link.specs.declared.linking.Mode.{Mode}
+use Rattle.file_commands.specs.declared.outcome.TheConstants.{DONE}
+use Rattle.file_commands.specs.Checking.{check_text}
+use Rattle.file_commands.specs.Outcomes.{printed, refused}
+use Rattle.bincl_match.specs.declared.mode.Mode.{Mode}
 use Rattle.file_commands.specs.Linking.{LinksFiles}
 use Rattle.file_commands.specs.Asking.{AsksFiles}
-use Rattle.file_commands.specs.Replies.{text_end, WorldFault, OnWorld, OnObject, IsObjectOf, Answers}
+use Rattle.file_commands.specs.Replies.{text_end, WorldFault, OnWorld, Counts, OnObject, IsObjectOf, Answers}
 
 -- the fault of entries, where text ends at an address, is that of the object whose entries they are and whose text ends there
 pub world_fault : (object : Object) (end : ℕ) (entries : List Named) (f : Fault) → end ≡ text_end object → entries ≡ named_of object
     → ExpandFault end entries f → WorldFault object f
 world_fault object end entries f same are fault =
     subst (λ (z : List Named). ExpandFault (text_end object) z f) are (subst (λ (z : ℕ). ExpandFault z entries f) same fault)
+
+-- how much entries have, where text ends at an address, is how much the object has whose entries they are and whose text ends there
+pub by_counted : (name : List ℕ) (object : Object) (end : ℕ) (entries : List Named) (world : World) (o : Outcome) → end ≡ text_end object → entries ≡ named_of object
+    → IsExpanded end entries world → o ≡ printed DONE (check_text entries world) → OnWorld name object (Counts object) o
+by_counted name object end entries world o same are is told =
+    let there = subst (λ (z : List Named). IsExpanded (text_end object) z world) are (subst (λ (z : ℕ). IsExpanded z entries world) same is) in
+    inl ((world, there, told ∙ ap (λ (z : List Named). printed DONE (check_text z world)) are))
 
 -- the refusal of an object
 pub by_world_fault : {E : Type 0} (name : List ℕ) (object : Object) (Says : World → Outcome → Type 0) (f : Fault) (res : Result Outcome E)

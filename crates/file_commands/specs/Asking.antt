@@ -12,7 +12,7 @@ use Rattle.query_text.specs.Replies as replies
 use Rattle.aout_link.specs.Sources.{Source}
 use Rattle.aout_link.specs.Linking.{IsLinked, RefusesLink}
 use Rattle.aout_link.specs.declared.linking.Image.{Image}
-use Rattle.aout_link.specs.declared.linking.Mode.TheVariants.{Merge}
+use Rattle.bincl_match.specs.declared.mode.Mode.TheVariants.{Merge}
 use Rattle.file_commands.specs.declared.outcome.Outcome.{Outcome}
 use Rattle.file_commands.specs.declared.outcome.TheConstants.{DONE}
 use Rattle.file_commands.specs.Outcomes.{printed}

@@ -4,7 +4,7 @@ use Rattle.std.specs.Prelude.{ℕ, ◌==◌, List, [], ◌∷◌, ◌++◌, leng
 use Rattle.std.specs.List.{sum_by, count_by}
 use Rattle.nlist_codec.specs.declared.named.Named.{Named}
 use Rattle.stab_codes.specs.declared.code.TheConstants.{N_EXCL}
-use Rattle.stab_units.specs.Marks.{is_header}
+use Rattle.unit_outlines.specs.Marks.{is_header}
 use Rattle.stab_units.specs.declared.unit.Unit.{Unit}
 use Rattle.type_graph.specs.declared.world.World.{World}
 

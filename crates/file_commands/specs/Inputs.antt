@@ -1,7 +1,8 @@
 -- What loading the inputs of a command comes to: too many of them, the first that fails, or the contents of all in order. This is this project's own.
-use Rattle.std.specs.Prelude.{◌≡◌, ◌<◌, ◌≤◌, ◌⊎◌, ◌+◌, ℕ, nat_lt, if◌then◌else◌, List, [], ◌∷◌, ◌++◌, length, slice_index_or, Option, Some, None, Result, IfOk}
+use Rattle.std.specs.Prelude.{◌≡◌, ◌<◌, ◌≤◌, ◌⊎◌, ◌+◌, ℕ, nat_lt, if◌then◌else◌, List, [], ◌∷◌, ◌++◌, length, take, slice_index_or, Option, Some, None, Result, Ok, Err, IfOk}
 use Rattle.std.specs.List.{sum_by}
 use Rattle.std.specs.FinMap.{get}
+use Rattle.outside.specs.Calls.{Call, loads_of}
 use Rattle.outside.specs.Causes.{Contents, Rose}
 use Rattle.file_commands.specs.declared.inputs.Cause.TheVariants as cause
 use Rattle.file_commands.specs.declared.inputs.Inputs.{Inputs}
@@ -64,6 +65,26 @@ pub record HasLoaded {E : Type 0} (comes : Contents → Inputs) (f g : FilesSeen
   pub held : g.held ≡ f.held
   pub stores : g.stores ≡ f.stores
   pub later : f.loads ≤ g.loads
+
+-- ---- calls
+
+-- the names that were loaded where loading comes to this: all; those up to and with the one that was not loaded; of too many none
+abbrev pub loaded_names : List (List ℕ) → Inputs → List (List ℕ)
+loaded_names names (All texts) = names
+loaded_names names (Fault at why) = take (at + 1) names
+loaded_names names TooMuch = names
+loaded_names names TooMany = []
+
+-- exactly these names were called, in order, each once: each was loaded for at most `most` bytes
+abbrev pub HasCalled : ℕ → List (List ℕ) → List Call → List Call → Type 0
+HasCalled most names before after = after ≡ before ++ loads_of most names
+
+-- what loading names calls: those that were loaded, and out of memory a front of the names
+abbrev pub LoadsNames : {E : Type 0} → ℕ → List (List ℕ) → List Call → List Call → Result Inputs E → Type 0
+LoadsNames most names before after (Ok inputs) = HasCalled most (loaded_names names inputs) before after
+LoadsNames most names before after (Err e) = (count : ℕ) × HasCalled most (take count names) before after
+
+-- ---- places
 
 -- the place of a fault is that of a name
 abbrev pub IsPlaced : List (List ℕ) → Inputs → Type 0

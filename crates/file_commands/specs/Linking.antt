@@ -11,7 +11,7 @@ use Rattle.aout_object.specs.Objects.{Contents as Object}
 use Rattle.aout_link.specs.Sources.{Source}
 use Rattle.aout_link.specs.Linking.{IsLinked, RefusesLink}
 use Rattle.aout_link.specs.declared.linking.Image.{Image}
-use Rattle.aout_link.specs.declared.linking.Mode.{Mode}
+use Rattle.bincl_match.specs.declared.mode.Mode.{Mode}
 use Rattle.file_commands.specs.declared.outcome.Outcome.{Outcome}
 use Rattle.file_commands.specs.Outcomes.{limit, list_refused, list_refused_at, kept_with}
 use Rattle.file_commands.specs.Objects.{OnObjects, OnSources}

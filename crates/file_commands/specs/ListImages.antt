@@ -21,8 +21,8 @@ use Rattle.aout_link.specs.Making.{size_fault}
 use Rattle.aout_link.specs.Placing.{IsPlaced}
 use Rattle.aout_link.specs.Sources.{Source}
 use Rattle.aout_link.specs.declared.linking.Image.{Image}
-use Rattle.aout_link.specs.declared.linking.Mode.{Mode}
-use Rattle.aout_link.specs.declared.linking.Mode.TheVariants.{Merge}
+use Rattle.bincl_match.specs.declared.mode.Mode.{Mode}
+use Rattle.bincl_match.specs.declared.mode.Mode.TheVariants.{Merge}
 use Rattle.aout_link.specs.declared.placed.Placed.{Placed}
 use Rattle.command_line.specs.declared.command.Asked.TheVariants as asks
 use Rattle.command_line.specs.declared.command.Command.TheVariants as commands

@@ -6,7 +6,7 @@ use Rattle.st_base.specs.declared.fault.Fault.{Fault}
 use Rattle.aout_object.specs.Objects.{ObjectSpells, named_of}
 use Rattle.aout_object.specs.Objects.{Contents as Object}
 use Rattle.aout_object.specs.Checks.{FileFault}
-use Rattle.stab_units.specs.Worlds.{UnitsFault}
+use Rattle.stab_units.specs.ObjectUnits.{UnitsFault}
 use Rattle.aout_link.specs.Sources.{Source, HasUnits}
 use Rattle.file_commands.specs.declared.objects.Misfit.{Misfit}
 use Rattle.file_commands.specs.declared.outcome.Outcome.{Outcome}
@@ -55,6 +55,7 @@ OnObjects names texts Says o = OnEach Spells SpellsNone names texts Says o
 
 -- the object as source of a link: its entries are named, and have units
 pub record IsSource (object : Object) (source : Source) : Type 0 where
+  pub given : source.object ≡ object
   pub parts : source.parts ≡ object.parts
   pub named : source.named ≡ named_of object
   pub units : HasUnits source

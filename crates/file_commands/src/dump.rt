@@ -1,9 +1,12 @@
-//! The dump of an object: its header, the bytes of its segments, its relocations and its entries, a line each.
+//! `dump FILE`: the dump of an object: its header, the bytes of its segments, its relocations and its entries, a line each.
 
 ghost use Rattle.std.specs.Prelude.{◌≡◌, ◌++◌, ◌+◌, ◌^◌, ◌<◌, ◌≤◌, IfOk, OnOk, length, take, drop};
 ghost use Rattle.std.specs.Option.{option_copied};
 ghost use Rattle.file_commands.specs.Dump as spec;
+ghost use Rattle.file_commands.specs.Replies.{Dumps, OnObject};
 
+use crate::objects::object_of;
+use crate::outcome::{DONE, Outcome, printed};
 use aout_object::{Object, Parts};
 use nlist_codec::Named;
 use reloc::Reloc;
@@ -218,4 +221,21 @@ pub fn dump_text(alloc: Global, object: &Object) -> Result<Text, Memory>
     put_all_relocs(parts, &mut out)?;
     put_entries(entries.items(), &mut out)?;
     Ok(out)
+}
+
+fn dump_object(alloc: Global, object: &Object) -> Result<Outcome, Memory>
+    ensures { IfOk result (Dumps object.now) }
+{
+    Ok(printed(DONE, dump_text(alloc, object)?))
+}
+
+/// The dump of the bytes of a file.
+#[tactic(auto, using(crate::proofs::ReplyLemmas::by_object, crate::proofs::ReplyLemmas::by_refusal))]
+pub(crate) fn dump_file(alloc: Global, name: &[u8], bytes: Text) -> Result<Outcome, Memory>
+    ensures { IfOk result (OnObject name.now bytes Dumps) }
+{
+    match object_of(alloc, name, bytes)? {
+        Ok(object) => dump_object(alloc, &object),
+        Err(outcome) => Ok(outcome),
+    }
 }

@@ -3,7 +3,7 @@
 ghost use Rattle.std.specs.Prelude.{◌≡◌, ℕ, nat_lt, length};
 ghost use Rattle.std.specs.List.{sum_by};
 ghost use Rattle.file_commands.specs.Causes.{seen};
-ghost use Rattle.file_commands.specs.Inputs.{loaded_inputs, HasLoaded};
+ghost use Rattle.file_commands.specs.Inputs.{loaded_inputs, HasLoaded, LoadsNames};
 
 use command_line::MOST_NAMES;
 use outside::{Files, Loaded};
@@ -46,8 +46,8 @@ fn passes(texts: &[Text], total: u64) -> bool
     false
 }
 
-/// Loads all names in order, to the first that fails, unless they are too many: each for at most `most` bytes, and `total` bytes
-/// together. Takes memory for the texts; out of memory is an answer of its own.
+/// Loads all names in order, each once, to the first that fails, unless they are too many: each for at most `most` bytes, and `total`
+/// bytes together. Nothing else is called. Takes memory for the texts; out of memory is an answer of its own.
 pub fn load_all<F: Files>(
     alloc: Global,
     names: &[Text],
@@ -55,9 +55,10 @@ pub fn load_all<F: Files>(
     total: u64,
     files: &mut F,
 ) -> Result<Inputs, Memory>
-    ensures { HasLoaded (λ m. loaded_inputs m most total names.now)
+    ensures loaded { HasLoaded (λ m. loaded_inputs m most total names.now)
         (seen (F.held files.old) (F.load_faults files.old) (F.store_faults files.old) (F.last_failed files.old))
         (seen (F.held files.new) (F.load_faults files.new) (F.store_faults files.new) (F.last_failed files.new)) names.now result }
+    ensures called { LoadsNames most names.now (F.calls files.old) (F.calls files.new) result }
 {
     if names.len() as u64 > MOST_NAMES {
         return Ok(Inputs::TooMany);

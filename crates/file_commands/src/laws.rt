@@ -3,9 +3,11 @@
 ghost use Rattle.std.specs.Prelude.{◌≡◌, ℕ, List, Some};
 ghost use Rattle.outside.specs.Causes.{Contents};
 ghost use Rattle.query_text.specs.declared.query.Query.{Query};
-ghost use Rattle.aout_link.specs.declared.linking.Mode.{Mode};
-ghost use Rattle.aout_link.specs.declared.linking.Mode.TheVariants.{Merge};
+ghost use Rattle.bincl_match.specs.declared.mode.Mode.{Mode};
+ghost use Rattle.bincl_match.specs.declared.mode.Mode.TheVariants.{Merge};
+ghost use Rattle.file_commands.specs.declared.dump.TheConstants.{ROW};
 ghost use Rattle.file_commands.specs.declared.outcome.Outcome.{Outcome};
+ghost use Rattle.file_commands.specs.declared.outcome.TheConstants.{DONE, USAGE, REFUSED, LIST_REFUSED, ABSENT, READ_FAULT, WRITE_FAULT, NO_MEMORY, LIMIT};
 ghost use Rattle.file_commands.specs.ListImages.{IsAcceptedList, IsImageFile, IsAskedOf};
 ghost use Rattle.file_commands.specs.Replies.{AreBytes, IsOutcome, Means};
 
@@ -59,3 +61,18 @@ pub fn linking_laws()
     a_reply();
     one_link();
 }
+
+/// What each status is, and how many bytes stand in a line of a dump, in numbers: definitions cite the constants, so that a changed constant
+/// would change what they say.
+pub fn statuses_are()
+    ensures done { DONE ≡ 0 }
+    ensures usage { USAGE ≡ 2 }
+    ensures refused { REFUSED ≡ 3 }
+    ensures list_refused { LIST_REFUSED ≡ 4 }
+    ensures absent { ABSENT ≡ 5 }
+    ensures read_fault { READ_FAULT ≡ 6 }
+    ensures write_fault { WRITE_FAULT ≡ 7 }
+    ensures no_memory { NO_MEMORY ≡ 8 }
+    ensures limit { LIMIT ≡ 9 }
+    ensures row { ROW ≡ 16 }
+{}

@@ -6,19 +6,22 @@
 #![tactic(auto)]
 
 mod answer;
-mod asking;
-mod checking;
+mod ask;
+mod assemble;
+mod check;
 mod dump;
 mod inputs;
 mod laws;
-mod linking;
+mod link;
+mod list;
 mod objects;
 mod outcome;
+mod query;
 mod reading;
 
 pub use answer::reply;
 pub use inputs::{Cause, Inputs, load_all};
-pub use laws::{an_outcome, linking_laws, one_outcome};
+pub use laws::{an_outcome, linking_laws, one_outcome, statuses_are};
 pub use outcome::{
     ABSENT, Content, DONE, LIMIT, LIST_REFUSED, NO_MEMORY, Outcome, READ_FAULT, REFUSED, USAGE,
     WRITE_FAULT, usage,

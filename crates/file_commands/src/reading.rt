@@ -2,8 +2,10 @@
 
 ghost use Rattle.std.specs.Prelude.{◌≡◌, ◌<◌, ◌^◌, length, Err, IfOk};
 ghost use Rattle.st_base.specs.declared.fault.Fault.{Fault};
+ghost use Rattle.st_base.specs.declared.fault.Refused.{Refused};
 ghost use Rattle.aout_object.specs.Objects.{named_of};
-ghost use Rattle.file_commands.specs.Replies.{IsWorld, WorldFault};
+ghost use Rattle.unit_index.specs.Expanding.{IsExpanded, ExpandFault};
+ghost use Rattle.file_commands.specs.Replies.{IsWorld, WorldFault, text_end};
 
 use aout_object::Object;
 use nlist_codec::Named;
@@ -14,37 +16,64 @@ use std::sync::ledger::{Blank, Ledger};
 use type_graph::World;
 use unit_index::expand;
 
-// The entries of an object with their names. That an object has fewer than 2^32 of them is said by its parts.
-fn entries_of(alloc: Global, object: &Object) -> Result<List<Named>, Memory>
-    ensures value { IfOk result (λ entries. entries ≡ named_of object.now) }
-    ensures few { IfOk result (λ entries. length entries < 2 ^ 32) }
-{
-    let _lawful = object.parts();
-    object.named(alloc)
+/// The entries of an object with their names, and the address at which its text ends. The object is let go.
+#[derive(Debug, Drop)]
+pub(crate) struct Entries {
+    pub(crate) named: List<Named>,
+    pub(crate) text_end: u32,
 }
 
-fn read_counted<L: Ledger>(alloc: Global, object: &Object, blank: Blank) -> Result<World, Refused>
+/// Names the entries of an object, of which there are fewer than 2^32, and lets the object go.
+pub(crate) fn entries_of(alloc: Global, object: Object) -> Result<Entries, Memory>
+    ensures named { IfOk result (λ entries. entries.named ≡ named_of object) }
+    ensures text_end { IfOk result (λ entries. entries.text_end ≡ text_end object) }
+    ensures few { IfOk result (λ entries. length entries.named < 2 ^ 32) }
+{
+    let _lawful = object.parts();
+    let named = object.named(alloc)?;
+    Ok(Entries {
+        named,
+        text_end: object.text_end(),
+    })
+}
+
+fn expand_counted<L: Ledger>(
+    alloc: Global,
+    entries: &Entries,
+    blank: Blank,
+) -> Result<World, Refused>
+    requires few { length entries.now.named < 2 ^ 32 }
     requires name { blank.name ≡ L.name }
     requires parts { blank.parts ≡ L.parts }
     requires whole { blank.parts ≡ 1 }
-    ensures found { IfOk result (IsWorld object.now) }
+    ensures found { IfOk result (IsExpanded entries.now.text_end entries.now.named) }
     ensures few { IfOk result (λ world. length world.units < 2 ^ 32) }
-    ensures refused { (f : Fault) → result ≡ Err (Refused.At f) → WorldFault object.now f }
+    ensures refused { (f : Fault) → result ≡ Err (Refused.At f) → ExpandFault entries.now.text_end entries.now.named f }
 {
     let mut steps = Steps::<L>::new(blank);
-    let entries = entries_of(alloc, object)?;
-    expand(alloc, &entries, object.text_end(), &mut steps)
+    expand(alloc, &entries.named, entries.text_end, &mut steps)
 }
 
-/// The world of an object: its units, in which each excluded header has the symbols of the range that it stands for, and its externals.
+/// The world of entries: their units, in which each excluded header has the symbols of the range that it stands for, and their externals.
 ///
-/// Refused by the first fault of the outline of its entries, else by the first excluded header that does not stand for exactly one range,
-/// or else by the first fault of a string. Takes memory for the names of all entries and for all symbols; out of memory is an answer of
-/// its own.
-pub fn read_world(alloc: Global, object: &Object) -> Result<World, Refused>
-    ensures found { IfOk result (IsWorld object.now) }
+/// Refused with the first fault of the outline, else of the first excluded header that does not stand for exactly one range, or else of
+/// the first string that spells no symbol. Takes memory for all symbols.
+pub(crate) fn expand_entries(alloc: Global, entries: &Entries) -> Result<World, Refused>
+    requires few { length entries.now.named < 2 ^ 32 }
+    ensures found { IfOk result (IsExpanded entries.now.text_end entries.now.named) }
     ensures few { IfOk result (λ world. length world.units < 2 ^ 32) }
-    ensures refused { (f : Fault) → result ≡ Err (Refused.At f) → WorldFault object.now f }
+    ensures refused { (f : Fault) → result ≡ Err (Refused.At f) → ExpandFault entries.now.text_end entries.now.named f }
 {
-    read_counted::<Brand>(alloc, object, Blank::new(1))
+    expand_counted::<Brand>(alloc, entries, Blank::new(1))
+}
+
+/// The world of an object, as by `expand_entries`. The object is let go once its entries are named. Takes memory for the names of all
+/// entries and for all symbols.
+pub(crate) fn read_world(alloc: Global, object: Object) -> Result<World, Refused>
+    ensures found { IfOk result (IsWorld object) }
+    ensures few { IfOk result (λ world. length world.units < 2 ^ 32) }
+    ensures refused { (f : Fault) → result ≡ Err (Refused.At f) → WorldFault object f }
+{
+    let entries = entries_of(alloc, object)?;
+    expand_entries(alloc, &entries)
 }

@@ -4,12 +4,12 @@ use Rattle.std.proofs.Common.{◌≡◌, List, [], ◌∷◌, sym, subst, ⊎_el
 use Rattle.std.specs.Prelude.{Result, Ok, Err, OnOk}
 use Rattle.std.specs.List.{IsDistinct}
 use Rattle.std.proofs.lemmas.List.Elements.{All-nil, All-cons}
-use Rattle.stab_grammar.specs.declared.tree.Num.{Num}
-use Rattle.stab_grammar.specs.declared.tree.Num.TheVariants.{Pair}
-use Rattle.stab_grammar.specs.declared.tree.Key.{Key}
-use Rattle.stab_grammar.specs.Keys.{key_of}
-use Rattle.stab_grammar.specs.Surface.{same_key}
-use Rattle.stab_grammar.specs.Walks.{Visited}
+use Rattle.stab_symbols.specs.declared.tree.Num.{Num}
+use Rattle.stab_symbols.specs.declared.tree.Num.TheVariants.{Pair}
+use Rattle.stab_symbols.specs.declared.tree.Key.{Key}
+use Rattle.stab_symbols.specs.Keys.{key_of}
+use Rattle.stab_symbols.specs.Surface.{same_key}
+use Rattle.stab_symbols.specs.TypeWalks.{Visited}
 use Rattle.grammar_tests.specs.Listing.{GoesOnAtListed}
 
 on_ok : {A E P Q : Type 0} (r : Result A E) → OnOk r P → (P → Q) → OnOk r Q

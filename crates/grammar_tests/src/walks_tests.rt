@@ -1,8 +1,8 @@
 ghost use Rattle.std.specs.Prelude.{◌≡◌, [], ◌∷◌, IfOk, All, Contains};
 ghost use Rattle.std.specs.Bool.{OnTrue};
 ghost use Rattle.std.specs.List.{IsDistinct};
-ghost use Rattle.stab_grammar.specs.Keys as spec;
-ghost use Rattle.stab_grammar.specs.Surface.{same_key, surface_of};
+ghost use Rattle.stab_symbols.specs.Keys as spec;
+ghost use Rattle.stab_symbols.specs.Surface.{same_key, surface_of};
 
 use crate::holds::all_hold;
 use crate::stab_grammar_tests::{CALLS, StabGrammar};

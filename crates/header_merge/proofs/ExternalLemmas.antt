@@ -4,15 +4,12 @@ use Rattle.std.specs.Prelude.{◌==◌, ◌&&◌, ◌||◌, filter}
 use Rattle.std.proofs.lemmas.Bool.{true≢false}
 use Rattle.st_base.specs.Stabs.{is_stab}
 use Rattle.stab_codes.specs.declared.code.TheConstants.{N_BINCL, N_EXCL}
+use Rattle.nlist_codec.specs.Kinds.{defines_name}
+use Rattle.nlist_codec.specs.declared.kinds.TheConstants.{ABSOLUTE_EXTERNAL, TEXT_EXTERNAL, DATA_EXTERNAL, BSS_EXTERNAL}
 use Rattle.nlist_codec.specs.declared.named.Named.{Named}
-use Rattle.stab_units.specs.Marks.{is_header}
-use Rattle.stab_units.specs.Changing.{Change, all_headers, changed, changed_from, is_kept_in, mark_changed, range_in}
-use Rattle.type_graph.specs.declared.world.TheConstants.{EXTERNAL_ABSOLUTE, EXTERNAL_TEXT, EXTERNAL_DATA, EXTERNAL_BSS}
+use Rattle.unit_outlines.specs.Marks.{is_header, all_headers, range_in}
+use Rattle.stab_units.specs.Changing.{Change, changed, changed_from, is_kept_in, mark_changed}
 use Rattle.type_graph.specs.Worlds.{external_of, externals_of, is_external}
-
--- a kind is that of an external
-abbrev is_external_kind : ℕ → Bool
-is_external_kind kind = kind == EXTERNAL_ABSOLUTE || kind == EXTERNAL_TEXT || kind == EXTERNAL_DATA || kind == EXTERNAL_BSS
 
 -- the kind of a stab is another one
 other_kind : (k n : ℕ) → is_stab k ≡ true → is_stab n ≡ false → (k == n) ≡ false
@@ -22,18 +19,18 @@ other_kind k n stab none = by_case (k == n) refl where
   by_case false is = is
 
 -- a stab is no external
-stab_none : (k : ℕ) → is_stab k ≡ true → is_external_kind k ≡ false
+stab_none : (k : ℕ) → is_stab k ≡ true → defines_name k ≡ false
 stab_none k stab =
-    rw (other_kind k EXTERNAL_ABSOLUTE stab refl, other_kind k EXTERNAL_TEXT stab refl, other_kind k EXTERNAL_DATA stab refl, other_kind k EXTERNAL_BSS stab refl) refl
+    rw (other_kind k ABSOLUTE_EXTERNAL stab refl, other_kind k TEXT_EXTERNAL stab refl, other_kind k DATA_EXTERNAL stab refl, other_kind k BSS_EXTERNAL stab refl) refl
 
 -- nor is the mark of a header
-header_none : (a b : Bool) (k : ℕ) → (k == N_BINCL) ≡ a → (k == N_EXCL) ≡ b → (a || b) ≡ true → is_external_kind k ≡ false
-header_none true b k first second header = ap is_external_kind (eqb-true k N_BINCL first)
-header_none false true k first second header = ap is_external_kind (eqb-true k N_EXCL second)
+header_none : (a b : Bool) (k : ℕ) → (k == N_BINCL) ≡ a → (k == N_EXCL) ≡ b → (a || b) ≡ true → defines_name k ≡ false
+header_none true b k first second header = ap defines_name (eqb-true k N_BINCL first)
+header_none false true k first second header = ap defines_name (eqb-true k N_EXCL second)
 header_none false false k first second header = absurd cc
 
 -- or a changed one
-mark_none : (b : Bool) → is_external_kind (cond b N_BINCL N_EXCL) ≡ false
+mark_none : (b : Bool) → defines_name (cond b N_BINCL N_EXCL) ≡ false
 mark_none true = refl
 mark_none false = refl
 

@@ -7,7 +7,7 @@ use Rattle.std.proofs.lemmas.Bool.{true≢false}
 use Rattle.std.proofs.lemmas.Option.{slice_get-get_or, slice_get_within}
 use Rattle.stab_codes.specs.declared.code.TheConstants.{N_LSYM}
 use Rattle.nlist_codec.specs.declared.named.Named.{Named}
-use Rattle.stab_units.specs.declared.outline_types.UnitSpan.{UnitSpan}
+use Rattle.unit_outlines.specs.declared.outline_types.UnitSpan.{UnitSpan}
 use Rattle.stab_units.specs.declared.unit.Item.{Item}
 use Rattle.stab_units.specs.Units.{Stab, Filed, AreRead, IsRead, body_at, is_type, stabs_of}
 use Rattle.stab_units.specs.Changing.{Change, IsLocalIfGone, LocalsGo, is_left, is_left_item}

@@ -4,15 +4,15 @@ use Rattle.std.specs.Prelude.{flat_map}
 use Rattle.std.proofs.lemmas.List.{length-map}
 use Rattle.std.proofs.lemmas.Option.{slice_get_within}
 use Rattle.nlist_codec.specs.declared.named.Named.{Named}
-use Rattle.stab_grammar.specs.declared.tree.Symbol.{Symbol}
-use Rattle.stab_grammar.specs.Shape.{ShapedSymbol}
-use Rattle.stab_grammar.specs.Files.{DifferInFiles, file_0, files_of, shape_of, with_files}
-use Rattle.stab_units.specs.declared.outline_types.UnitSpan.{UnitSpan}
-use Rattle.stab_units.specs.declared.outline_types.Marks.TheVariants.{Image}
+use Rattle.stab_symbols.specs.declared.tree.Symbol.{Symbol}
+use Rattle.stab_symbols.specs.Shape.{ShapedSymbol}
+use Rattle.stab_symbols.specs.Files.{DifferInFiles, file_0, files_of, shape_of, with_files}
+use Rattle.unit_outlines.specs.declared.outline_types.UnitSpan.{UnitSpan}
+use Rattle.unit_outlines.specs.declared.outline_types.Marks.TheVariants.{Image}
 use Rattle.stab_units.specs.declared.unit.Unit.{Unit}
-use Rattle.stab_units.specs.Outlines.{OutlineFault, units_of}
+use Rattle.unit_outlines.specs.Outlines.{OutlineFault, units_of}
 use Rattle.stab_units.specs.Units.{AreUnitsOf, Filed}
-use Rattle.stab_units.specs.Worlds.{AreUnits}
+use Rattle.stab_units.specs.ObjectUnits.{AreUnits}
 use Rattle.stab_units.specs.Changing.{AreSpansChanged, LocalsGo}
 use Rattle.type_graph.specs.declared.world.World.{World}
 use Rattle.type_graph.specs.Worlds.{IsWorldOf}

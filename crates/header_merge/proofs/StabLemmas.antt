@@ -8,20 +8,20 @@ use Rattle.std.proofs.lemmas.Bool.{true≢false}
 use Rattle.st_base.specs.declared.fault.TheConstants.{NO_UNIT, EXCLUDED}
 use Rattle.stab_codes.specs.declared.code.TheConstants.{N_SO, N_BINCL, N_EINCL, N_EXCL}
 use Rattle.nlist_codec.specs.declared.named.Named.{Named}
-use Rattle.stab_grammar.specs.declared.tree.Symbol.{Symbol}
-use Rattle.stab_grammar.specs.Shape.{ShapedSymbol}
-use Rattle.stab_units.specs.declared.outline_types.HeaderMark.{HeaderMark}
-use Rattle.stab_units.specs.declared.outline_types.UnitSpan.{UnitSpan}
-use Rattle.stab_units.specs.declared.outline_types.Marks.TheVariants.{Object}
+use Rattle.stab_symbols.specs.declared.tree.Symbol.{Symbol}
+use Rattle.stab_symbols.specs.Shape.{ShapedSymbol}
+use Rattle.unit_outlines.specs.declared.outline_types.HeaderMark.{HeaderMark}
+use Rattle.unit_outlines.specs.declared.outline_types.UnitSpan.{UnitSpan}
+use Rattle.unit_outlines.specs.declared.outline_types.Marks.TheVariants.{Object}
 use Rattle.stab_units.specs.declared.unit.ItemText.{ItemText}
 use Rattle.stab_units.specs.declared.unit.ItemText.TheVariants as texts
-use Rattle.stab_units.specs.Words.{next, is_empty, ends_in}
-use Rattle.stab_units.specs.Nests.{nesting_of, in_headers}
-use Rattle.stab_units.specs.Runs.{continued}
-use Rattle.stab_units.specs.Marks.{mark_at, names_source, in_unit, is_header, headers_in, file_step, file_in}
-use Rattle.stab_units.specs.Outlines.{OutlineFault, directory_of, end_number, header_at, headers_from, inside, outline_tell, place_tell, span_at, span_step, units_from, units_of}
-use Rattle.stab_units.specs.Units.{Stab, Filed, AreRead, IsRead, IsTextOf, is_plain, stab_at, stabs_from, stabs_of, symbols_at, symbols_in}
-use Rattle.stab_units.proofs.UntoldLemmas.{Untold, fault-untold, told-quiet}
+use Rattle.unit_outlines.specs.EntryWords.{next, is_empty, ends_in}
+use Rattle.unit_outlines.specs.Nests.{nesting_of, in_headers}
+use Rattle.unit_outlines.specs.Runs.{continued}
+use Rattle.unit_outlines.specs.Marks.{mark_at, names_source, in_unit, is_header, headers_in, file_step, file_in, is_plain}
+use Rattle.unit_outlines.specs.Outlines.{OutlineFault, directory_of, end_number, header_at, headers_from, inside, outline_tell, place_tell, span_at, span_step, units_from, units_of}
+use Rattle.stab_units.specs.Units.{Stab, Filed, AreRead, IsRead, IsTextOf, stab_at, stabs_from, stabs_of, symbols_at, symbols_in}
+use Rattle.unit_outlines.proofs.UntoldLemmas.{Untold, fault-untold, told-quiet}
 use Rattle.header_merge.proofs.FrontLemmas.{all_append, all_cond}
 
 -- ---- no N_EXCL

@@ -3,9 +3,9 @@ use Rattle.std.proofs.Common.{◌≡◌, ℕ, List, [], ◌∷◌, ◌++◌, len
 use Rattle.std.specs.Prelude.{flat_map}
 use Rattle.std.specs.List.{AllByRecursion}
 use Rattle.std.proofs.lemmas.List.{map-append, length-map}
-use Rattle.stab_grammar.specs.declared.tree.Symbol.{Symbol}
-use Rattle.stab_grammar.specs.Shape.{ShapedSymbol}
-use Rattle.stab_grammar.specs.Files.{DifferInFiles, file_0, files_of, shape_of, with_files}
+use Rattle.stab_symbols.specs.declared.tree.Symbol.{Symbol}
+use Rattle.stab_symbols.specs.Shape.{ShapedSymbol}
+use Rattle.stab_symbols.specs.Files.{DifferInFiles, file_0, files_of, shape_of, with_files}
 
 -- lists whose fronts are equally long
 split_equal : (as1 bs1 cs ds : List ℕ) → length as1 ≡ length cs → as1 ++ bs1 ≡ cs ++ ds → (as1 ≡ cs) × (bs1 ≡ ds)

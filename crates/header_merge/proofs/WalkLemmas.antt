@@ -1,10 +1,12 @@
 -- One walk over entries, which keeps the open ranges and how many headers there were, comes to the changed list.
 use Rattle.std.proofs.Common.{◌≡◌, ℕ, Option, List, [], ◌∷◌, ◌++◌, sym, ap, ◌∙◌, refl, append_assoc}
 use Rattle.nlist_codec.specs.declared.named.Named.{Named}
-use Rattle.stab_units.specs.Changing.{Change, all_headers, changed, changed_at, changed_from, range_in}
+use Rattle.unit_outlines.specs.Marks.{all_headers, range_in}
+use Rattle.stab_units.specs.Changing.{Change, changed, changed_at, changed_from}
 use Rattle.header_merge.specs.declared.merging.Walk.{Walk}
-use Rattle.header_merge.specs.declared.nest.Nest.{Nest}
-use Rattle.header_merge.specs.Walking.{HasChanged, Nests, changed_by}
+use Rattle.unit_outlines.specs.declared.nest.Nest.{Nest}
+use Rattle.unit_outlines.specs.Sweeps.{Nests}
+use Rattle.header_merge.specs.Walking.{HasChanged, changed_by}
 
 -- nothing behind a list
 none_behind : (xs : List Named) → xs ++ [] ≡ xs

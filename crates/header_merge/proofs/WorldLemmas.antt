@@ -3,10 +3,10 @@ use Rattle.std.proofs.Common.{◌≡◌, ℕ, zero, suc, ◌+◌, ◌<◌, ◌||
 use Rattle.std.specs.Prelude.{◌==◌, filter, flat_map}
 use Rattle.std.specs.List.{AllByRecursion}
 use Rattle.nlist_codec.specs.declared.named.Named.{Named}
-use Rattle.stab_grammar.specs.declared.tree.Symbol.{Symbol}
-use Rattle.stab_grammar.specs.Files.{files_of, shape_of}
-use Rattle.stab_units.specs.declared.outline_types.HeaderMark.{HeaderMark}
-use Rattle.stab_units.specs.declared.outline_types.UnitSpan.{UnitSpan}
+use Rattle.stab_symbols.specs.declared.tree.Symbol.{Symbol}
+use Rattle.stab_symbols.specs.Files.{files_of, shape_of}
+use Rattle.unit_outlines.specs.declared.outline_types.HeaderMark.{HeaderMark}
+use Rattle.unit_outlines.specs.declared.outline_types.UnitSpan.{UnitSpan}
 use Rattle.stab_units.specs.declared.unit.HeaderFile.{HeaderFile}
 use Rattle.stab_units.specs.declared.unit.Unit.{Unit}
 use Rattle.stab_units.specs.Units.{Filed, AreRead, AreUnitsOf, file_of, files_from, header_name, names_of, stabs_of, symbols_at, symbols_in, unit_of}
@@ -17,6 +17,7 @@ use Rattle.bincl_match.specs.Reading.{units_with}
 use Rattle.bincl_match.proofs.ListLemmas.{none_is, not_both, some_is}
 use Rattle.unit_index.specs.declared.owner.Owner.{Owner}
 use Rattle.unit_index.specs.Owners.{stands_for}
+use Rattle.type_graph.specs.Types as types
 use Rattle.unit_index.specs.Expanding as expanding
 use Rattle.unit_index.specs.Expanding.{file_expanded, files_expanded, headers_expanded, taken_over, unit_expanded, units_expanded}
 use Rattle.header_merge.proofs.ListLemmas.{get_there}
@@ -192,7 +193,7 @@ module _ (c : Change) (entries : List Named) (units : List Unit) where
       let file_is : slice_get (files_from 0 (names_of t) gs) (1 + k) ≡ Some (file_of (1 + k) after.0.name gs) =
       ap (slice_get (files_from 0 (names_of t) gs)) file ∙ files_get 1 t.headers gs k (1 + k) after.0 after.1 refl in
       let same : expanding.symbols_at units n (1 + k) ≡ flat_map (symbols_at (1 + k)) fs =
-      ap (λ u. expanding.symbols_of (slice_get (expanding.files_of u) (1 + k))) unit_is ∙ ap expanding.symbols_of file_is
+      ap (λ u. types.symbols_in (slice_get (expanding.files_of u) (1 + k))) unit_is ∙ ap types.symbols_in file_is
       ∙ left_symbols c place (1 + k) fs (ap (is_left c place) file ∙ kept) in
       let made : IsOfFile units (range_at n (1 + k) h.header fs) = record {
         shape = ap (map shape_of) (sym same);

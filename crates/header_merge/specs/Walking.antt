@@ -1,27 +1,18 @@
 -- What one walk over entries keeps of those before, while it changes them. Contracts of private functions alone use these words; that the
 -- walk comes to `changed` of stab_units is in proofs/WalkLemmas.antt.
-use Rattle.std.specs.Prelude.{◌≡◌, ℕ, ◌+◌, Option, cond, List, [], ◌∷◌, ◌++◌, slice_get}
+use Rattle.std.specs.Prelude.{◌≡◌, ℕ, Option, cond, List, [], ◌∷◌, ◌++◌}
 use Rattle.st_base.specs.Stabs.{is_stab}
 use Rattle.nlist_codec.specs.declared.named.Named.{Named}
-use Rattle.stab_units.specs.Changing.{Change, all_headers, changed, changed_from, is_kept_in, mark_changed, range_in}
-use Rattle.stab_units.specs.Marks.{is_header}
+use Rattle.stab_units.specs.Changing.{Change, changed, changed_from, is_kept_in, mark_changed}
+use Rattle.unit_outlines.specs.Marks.{is_header}
+use Rattle.unit_outlines.specs.Sweeps.{Nests}
 use Rattle.header_merge.specs.declared.merging.Walk.{Walk}
-use Rattle.header_merge.specs.declared.nest.Nest.{Nest}
-
--- how many headers there are up to an entry, where there are so many before it
-abbrev pub headers_behind : ℕ → Named → ℕ
-headers_behind n e = cond (is_header e.kind) (n + 1) n
 
 -- what an entry becomes behind so many headers, in this range
 abbrev pub changed_by : Change → ℕ → Option ℕ → Named → List Named
 changed_by c place range e =
     cond (is_header e.kind) (mark_changed c place e ∷ [])
     (cond (is_stab e.kind) (cond (is_kept_in c range) (e ∷ []) []) (e ∷ []))
-
--- the range behind entries that leave so many ranges open: the next one outside it, and so on
-pub record Nests (back : List Named) (n : Nest) : Type 0 where
-  pub open_are : (ends : ℕ) → range_in back ends ≡ slice_get n.open_ranges ends
-  pub count_is : n.headers ≡ all_headers back
 
 -- what the entries before became, and what those that are left become, is what all become
 pub record HasChanged (c : Change) (entries left : List Named) (w : Walk) : Type 0 where

@@ -5,7 +5,6 @@
 
 mod laws;
 mod merging;
-mod nest;
 
 pub use laws::merged_world;
 pub use merging::merge_headers;

@@ -21,11 +21,11 @@ ghost use Rattle.header_merge.specs.Merged.{change_of, merged};
 ghost use Rattle.header_merge.specs.Merged as image;
 ghost use Rattle.header_merge.specs.Walking.{HasChanged, changed_by};
 
-use crate::nest::{Nest, is_header};
 use bincl_match::Grouping;
 use nlist_codec::Named;
 use st_base::{LEAST_STAB, List, Memory, Text};
 use stab_codes::{N_BINCL, N_EXCL};
+use stab_units::{Nest, is_header};
 use std::alloc::Global;
 
 // ---- headers
@@ -51,12 +51,12 @@ fn instance_at(grouping: &Grouping, place: usize) -> u32
 }
 
 // Whether the entries of this range stay.
-fn is_kept_in(grouping: &Grouping, range: Option<usize>) -> bool
+fn is_kept_in(grouping: &Grouping, range: Option<u64>) -> bool
     ensures { result ≡ changing.is_kept_in (change_of grouping.now) range }
 {
     match range {
         None => true,
-        Some(place) => is_kept(grouping, place),
+        Some(place) => is_kept(grouping, place as usize),
     }
 }
 
@@ -92,12 +92,12 @@ fn mark(grouping: &Grouping, place: usize, entry: Named) -> Named
     }
 }
 
-// Appends what an entry becomes behind so many headers, in this range.
+// Appends what an entry becomes after so many headers, in this range.
 fn put(
     out: &mut List<Named>,
     grouping: &Grouping,
     place: usize,
-    range: Option<usize>,
+    range: Option<u64>,
     entry: Named,
 ) -> Result<(), Memory>
     ensures { OnOk result (out.new ≡ out.old ++ changed_by (change_of grouping.now) place range entry) }
@@ -138,7 +138,7 @@ impl Walk {
         ensures changed { let c = change_of grouping.now in OnOk result ((entries left : Items SomeNamed)
             → HasChanged c entries (entry ∷ left) self.old → HasChanged c entries left self.new) }
     {
-        let place = self.nest.headers;
+        let place = self.nest.headers as usize;
         let range = self.nest.range();
         self.nest.pass(&entry)?;
         put(&mut self.out, grouping, place, range, entry)?;
@@ -168,9 +168,9 @@ fn take_out(alloc: Global, entries: &mut List<Named>, at: usize) -> Named
 /// the instance of the range that is kept for it.
 ///
 /// Ranges are counted from 0 through all units, one for each N_BINCL and N_EXCL; of a range for which `grouping` has no place everything
-/// stays, with 0 as the value of its mark. An N_SO ends all ranges that are open. Any entries are taken, and moved. Refused only where
-/// memory is wanted: for the new list and for a place of each open range. After "The stabs debug format", on include files; instances
-/// are this project's own.
+/// stays, with 0 as the value of its mark. An N_SO ends all ranges that are open. Any entries are taken, and moved. Out of memory
+/// is its only refusal: memory is taken for the new list and for a place of each open range. After "The stabs debug format", on include
+/// files; instances are this project's own.
 pub fn merge_headers(
     alloc: Global,
     entries: List<Named>,

@@ -2,6 +2,7 @@
 use Rattle.std.proofs.Common.{◌≡◌, ℕ, true, false, List, [], ◌∷◌, refl}
 use Rattle.nlist_codec.specs.declared.entry.Entry.{Entry}
 use Rattle.nlist_codec.specs.Entries.{entry_of, entry_bytes, entries_in}
+use Rattle.nlist_codec.specs.Kinds.{defines_name}
 
 -- line 7 at 0x1000
 abbrev line_entry : Entry
@@ -37,3 +38,13 @@ no_entry = refl
 -- read in the other order the name stands elsewhere
 read_in_the_other_order : (entry_of false big_line).strx ≡ 0x04000000
 read_in_the_other_order = refl
+
+-- a definition in data that all objects see, one that its own object alone sees, and a common
+in_data : defines_name 7 ≡ true
+in_data = refl
+
+in_own_data : defines_name 6 ≡ false
+in_own_data = refl
+
+common : defines_name 1 ≡ false
+common = refl

@@ -5,7 +5,7 @@ ghost use Rattle.nlist_codec.specs.Entries.{EntryFits, entry_of, entry_bytes};
 
 use st_base::{ENTRY_SIZE, Layout};
 
-/// `n_strx`, four bytes: the place of the name in the string table, 0 for none.
+/// `n_strx`, four bytes: the offset of the name in the string table, 0 for none.
 const STRX: usize = 0;
 /// `n_type`, one byte.
 const KIND: usize = 4;

@@ -1,9 +1,10 @@
--- Worked values of what a call may answer. The files hold the bytes 1 2 3 under the name `a`, and the sink
+-- Worked values of what a call may answer, and of the calls that were made. The files hold the bytes 1 2 3 under the name `a`, and the sink
 -- holds the byte 7.
-use Rattle.std.proofs.Common.{◌≡◌, List, ℕ, [], ◌∷◌, ◌++◌, length, Some, None, refl, ap, lit≤, lit<, ◌∙◌, arith, length-append}
+use Rattle.std.proofs.Common.{◌≡◌, List, ℕ, [], ◌∷◌, ◌++◌, length, Option, Some, None, refl, ap, lit≤, lit<, ◌∙◌, arith, length-append}
 use Rattle.std.specs.Prelude.{codes}
 use Rattle.std.specs.Cmp.Lexicographic.{nat_list_cmp_total}
 use Rattle.std.specs.FinMap.{get, insert, empty, get-insert, get-empty}
+use Rattle.outside.specs.Calls.{Call, load_of, store_of, then_call, loads_of, stores_of}
 use Rattle.outside.specs.Causes.{Contents, Rose, Loads, Stores, Puts, last_count, next_count, last_after}
 use Rattle.outside.specs.declared.files.Loaded.TheVariants as loaded
 use Rattle.outside.specs.declared.files.Stored.TheVariants as stored
@@ -89,6 +90,20 @@ Stores-failed failed = absurd (omega (arith, failed.1))
 -- a put that fails may have appended the first of two bytes
 Puts-failed : Puts (Some (7 ∷ [])) (Some (7 ∷ 8 ∷ [])) 0 1 (8 ∷ 9 ∷ []) put.Failed
 Puts-failed = ((8 ∷ [], 9 ∷ [], refl, refl), lit≤ tt)
+
+-- ---- calls
+
+-- the loads of two names for at most 3 bytes each come in their order, and one that is called next stands at the end
+loads_of-two : loads_of 3 (a ∷ b ∷ []) ≡ load_of a 3 ∷ load_of b 3 ∷ []
+loads_of-two = refl
+
+then_call-store : then_call (loads_of 3 (a ∷ [])) (store_of b) ≡ load_of a 3 ∷ store_of b ∷ []
+then_call-store = refl
+
+-- two stores are not the stores of one name or none
+stores_of-two : (name : Option (List ℕ)) → ¬ (stores_of name ≡ store_of a ∷ store_of a ∷ [])
+stores_of-two None e = absurd cc
+stores_of-two (Some name) e = absurd cc
 
 -- ---- reading to the end
 

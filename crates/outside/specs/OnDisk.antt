@@ -2,6 +2,7 @@
 -- of the sink the writer. This is this project's own.
 use Rattle.std.specs.Prelude.{ℕ, List, Option, Some, refl}
 use Rattle.std.specs.Coded.{Coded, code_by, coded×, coded_ℕ}
+use Rattle.outside.specs.Calls.{Call, load_of, store_of, then_call}
 use Rattle.outside.specs.Causes.{next_count}
 use Rattle.outside.specs.declared.files.Loaded.{Loaded}
 use Rattle.outside.specs.declared.files.Loaded.TheVariants as loaded
@@ -10,28 +11,33 @@ use Rattle.outside.specs.declared.files.Stored.TheVariants as stored
 use Rattle.outside.specs.declared.sink.Put.{Put}
 use Rattle.outside.specs.declared.sink.Put.TheVariants as put
 
--- how many loads and how many stores failed, and the name of the last failed load
+-- how many loads and how many stores failed, the name of the last failed load, and the calls so far
 pub record FilesOnDisk : Type 0 where
   pub load_faults : ℕ
   pub store_faults : ℕ
   pub last_failed : Option (List ℕ)
+  pub calls : List Call
+
+-- one more call
+abbrev pub called : FilesOnDisk → Call → FilesOnDisk
+called files call = record files { calls = then_call files.calls call }
 
 -- one more failed load, of this name
 abbrev pub failed_load : FilesOnDisk → List ℕ → FilesOnDisk
 failed_load files name = record files { load_faults = next_count files.load_faults; last_failed = Some name }
 
--- the files after a load of this name that answers so: a file that is not found counts as a failed load
-abbrev pub after_load : FilesOnDisk → List ℕ → Loaded → FilesOnDisk
-after_load files name (loaded.Bytes text) = files
-after_load files name loaded.Absent = failed_load files name
-after_load files name loaded.Long = files
-after_load files name loaded.Failed = failed_load files name
-after_load files name loaded.Memory = files
+-- the files after a load of this name for at most `most` bytes that answers so: a file that is not found counts as a failed load
+abbrev pub after_load : FilesOnDisk → List ℕ → ℕ → Loaded → FilesOnDisk
+after_load files name most (loaded.Bytes text) = called files (load_of name most)
+after_load files name most loaded.Absent = called (failed_load files name) (load_of name most)
+after_load files name most loaded.Long = called files (load_of name most)
+after_load files name most loaded.Failed = called (failed_load files name) (load_of name most)
+after_load files name most loaded.Memory = called files (load_of name most)
 
--- the files after a store that answers so
-abbrev pub after_store : FilesOnDisk → Stored → FilesOnDisk
-after_store files stored.Failed = record files { store_faults = next_count files.store_faults }
-after_store files answer = files
+-- the files after a store of this name that answers so
+abbrev pub after_store : FilesOnDisk → List ℕ → Stored → FilesOnDisk
+after_store files name stored.Failed = called (record files { store_faults = next_count files.store_faults }) (store_of name)
+after_store files name answer = called files (store_of name)
 
 -- the writer, and how many puts failed
 pub record OverWriter (W : Type 0) : Type 0 where

@@ -8,6 +8,7 @@
 //! clause says which bytes lie on the disk, and what a writer took is said only where the writer tells it.
 #![tactic(auto)]
 
+mod call;
 mod disk_files;
 mod files;
 mod held_file;
@@ -21,6 +22,7 @@ mod sure_sink;
 mod tests;
 mod transfer;
 
+pub use call::Access;
 pub use disk_files::DiskFiles;
 pub use files::{Files, Loaded, Stored};
 pub use memory_files::MemoryFiles;

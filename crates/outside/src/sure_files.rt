@@ -1,46 +1,48 @@
-ghost use Rattle.std.specs.Prelude.{◌≡◌, OnOk, OnErr};
+ghost use Rattle.std.specs.Prelude.{◌≡◌, [], OnOk, OnErr};
 ghost use Rattle.std.specs.FinMap.{insert, empty};
 
+use crate::call::Access;
 use crate::files::{Files, Loaded, Stored};
 use crate::held_file::{HeldFile, load_copy};
+use http_server::Log;
 use st_base::{List, Memory, Text};
 use std::alloc::Global;
 use std::marker::Model;
 
 /// Files in memory that never fail. What a name was given before stays in memory until the files are
 /// dropped.
-#[derive(Debug, Drop)]
+#[derive(Drop)]
 pub struct SureFiles {
     files: List<HeldFile>,
+    calls: Log<Text, Access>,
 }
 
 impl Model for SureFiles {
-    ghost use Rattle.std.specs.Coded.{coded_list, coded_ℕ};
-    ghost use Rattle.std.specs.FinMap as map;
-    ghost use Rattle.outside.specs.Causes.{Contents};
+    ghost use Rattle.outside.specs.InMemory.{SureContents, sure_code};
 
-    ghost Value = { Contents };
+    ghost Value = { SureContents };
 
-    ghost coded = { map.code (coded_list coded_ℕ) (coded_list coded_ℕ) };
+    ghost coded = { sure_code };
 
     ghost use Rattle.outside.specs.Held.{contents_of};
 
-    ghost view = { λ s. contents_of s.files };
+    ghost view = { λ s. record { contents = contents_of s.files; calls = s.calls.items } };
 }
 
 impl SureFiles {
     /// Files without contents. Takes no memory.
     pub fn new(alloc: Global) -> SureFiles
-        ensures { result ≡ empty }
+        ensures { result ≡ record { contents = empty; calls = [] } }
     {
         SureFiles {
             files: List::new(alloc),
+            calls: Log::new(),
         }
     }
 
     /// Sets the content of a name, or changes nothing.
     pub fn hold(&mut self, name: Text, bytes: Text) -> Result<(), Memory>
-        ensures ok { OnOk result (self.new ≡ insert self.old name bytes) }
+        ensures ok { OnOk result (self.new ≡ record self.old { contents = insert self.old.contents name bytes }) }
         ensures err { OnErr result (self.new ≡ self.old) }
     {
         self.files.push(HeldFile { name, bytes })
@@ -50,7 +52,7 @@ impl SureFiles {
 impl Files for SureFiles {
     ghost use Rattle.std.specs.Prelude.{Some, None};
 
-    ghost held = { λ s. Some s };
+    ghost held = { λ s. Some s.contents };
 
     ghost load_faults = { λ _. 0 };
 
@@ -58,11 +60,15 @@ impl Files for SureFiles {
 
     ghost last_failed = { λ _. None };
 
+    ghost calls = { λ s. s.calls };
+
     fn load(&mut self, alloc: Global, name: Text, most: u64) -> Loaded {
+        self.calls = self.calls.and(&name, &Access::Load(most));
         load_copy(alloc, self.files.items(), name.bytes(), most)
     }
 
     fn store(&mut self, alloc: Global, name: &Text, bytes: &Text) -> Stored {
+        self.calls = self.calls.and(name, &Access::Store);
         match HeldFile::copy(alloc, name, bytes) {
             Ok(file) => match self.files.push(file) {
                 Ok(()) => Stored::Done,

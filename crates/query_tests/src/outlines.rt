@@ -1,7 +1,7 @@
 //! Outlines, units and externals as answers.
 
 ghost use Rattle.std.specs.Prelude.{◌≡◌, ◌<◌, ◌^◌, length};
-ghost use Rattle.stab_units.specs.Outlines.{IsOutlined};
+ghost use Rattle.unit_outlines.specs.Outlines.{IsOutlined};
 
 use crate::answers::{
     end_line, put_bounds, put_extent, put_hex2, put_hex8, put_last_name, put_line, put_number,

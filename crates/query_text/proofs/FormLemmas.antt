@@ -24,7 +24,7 @@ module _ (keywords : List Keyword) (words : List (List ℕ)) (at furthest : ℕ)
       → form_from (drop (at + 1) keywords) words (max furthest wrong) ≡ form_from (drop at keywords) words furthest
   form_from-past wrong is = sym (step ∙ ap (go_on (get_or keywords at d) furthest (form_from (drop (at + 1) keywords) words)) is)
 
--- where none is left, the furthest place is told
+-- where none is left, the furthest place is answered
 pub form_from-end : (keywords : List Keyword) (words : List (List ℕ)) (furthest : ℕ) → form_from (drop (length keywords) keywords) words furthest ≡ Err furthest
 unfolding form_from
 form_from-end keywords words furthest = ap (λ (ks : List Keyword). form_from ks words furthest) (drop-length keywords)

@@ -1,6 +1,6 @@
 -- Worked values of what words ask, by hand.
-use Rattle.std.proofs.Common.{◌≡◌, ℕ, true, false, List, [], ◌∷◌, Some, None, refl}
-use Rattle.std.specs.Prelude.{codes, Ok, Err}
+use Rattle.std.proofs.Common.{◌≡◌, ℕ, true, false, List, [], ◌∷◌, Some, None, refl, sym, ◌∙◌, ◌≤◌, arith}
+use Rattle.std.specs.Prelude.{codes, decimal, Ok, Err}
 use Rattle.std.specs.Str.{is_utf8}
 use Rattle.readers.specs.Words.{number_at, digits_on}
 use Rattle.query_text.specs.declared.query.Query.TheVariants as queries
@@ -27,7 +27,7 @@ nine_digits = refl
 no_digit : spelled_address (codes "0x1g") ≡ None
 no_digit = refl
 
--- the letter behind the nought is small
+-- the letter after the zero is small
 a_large_letter : spelled_address (codes "0X1") ≡ None
 a_large_letter = refl
 
@@ -68,7 +68,7 @@ a_large_unit : asked (codes "tag" ∷ codes "65536" ∷ codes "a.c" ∷ []) ≡ 
 unfolding number_at digits_on form_from
 a_large_unit = rw (tag_text, file_text, large_text) refl
 
--- a leading zero is told at its place, and so are a word that is missing and one too many
+-- a leading zero is reported at its place, and so are a word that is missing and one too many
 a_leading_zero : asked (codes "tag" ∷ codes "07" ∷ codes "a.c" ∷ []) ≡ Err 1
 unfolding number_at digits_on form_from
 a_leading_zero = rw (tag_text, zeros_text) refl
@@ -110,3 +110,15 @@ padded = (codes "0x0010", refl, refl)
 -- a word more spells nothing
 one_more : Spell (codes "units" ∷ codes "7" ∷ []) queries.Units → ⊥
 one_more e = absurd cc
+
+-- the files of the unit with the greatest number
+last_unit : Spell (codes "files" ∷ decimal 4294967295 ∷ []) (queries.Files 4294967295)
+last_unit = (refl, omega arith)
+
+-- a greater number spells nothing, even in decimal
+too_great : Spell (codes "files" ∷ decimal 4294967296 ∷ []) (queries.Files 4294967296) → ⊥
+too_great e = absurd (let le : 4294967296 ≤ 4294967295 = e.1 in omega (arith, le))
+
+-- and a file is named by a text
+not_a_text : (word : List ℕ) → is_text word ≡ false → Spell (codes "addresses" ∷ word ∷ decimal 7 ∷ []) (queries.Addresses word 7) → ⊥
+not_a_text word none e = let t : true ≡ false = sym e.1 ∙ none in absurd cc

@@ -1,7 +1,7 @@
 -- Every query has one reply on a world, since every key has one listing.
 use Rattle.std.proofs.Common.{◌≡◌, ℕ, List, [], Option, Some, None, refl, sym, ap, ◌∙◌}
 use Rattle.std.specs.Prelude.{slice_get}
-use Rattle.stab_grammar.specs.declared.tree.Key.{Key}
+use Rattle.stab_symbols.specs.declared.tree.Key.{Key}
 use Rattle.stab_units.specs.declared.unit.Unit.{Unit as OneUnit}
 use Rattle.type_graph.specs.declared.world.World.{World}
 use Rattle.type_graph.specs.Types.{tag_of, typedef_of}

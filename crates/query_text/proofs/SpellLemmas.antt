@@ -24,23 +24,26 @@ Holds want word = holds is_wanted want word ≡ true
 keyword : (k : Keyword) (word : List ℕ) → Holds (wants.This k) word → word ≡ keyword_text k
 keyword k word e = (bytes_eq-Decides word (keyword_text k)).0 (and_parts (is_text word) (is_wanted (wants.This k) word) e).1
 
-spelled : (most : ℕ) (o : Option ℕ) (word : List ℕ) → is_some o ≡ true → IfSome o (λ n. (n ≤ most) × (word ≡ decimal n)) → word ≡ decimal (unwrap_or o 0)
+spelled : (most : ℕ) (o : Option ℕ) (word : List ℕ) → is_some o ≡ true → IfSome o (λ n. (n ≤ most) × (word ≡ decimal n)) → (word ≡ decimal (unwrap_or o 0)) × (unwrap_or o 0 ≤ most)
 spelled most None word e h = absurd cc
-spelled most (Some n) word e h = h.1
+spelled most (Some n) word e h = (h.1, h.0)
 
-number : (word : List ℕ) → Holds wants.Number word → word ≡ decimal (number_of word)
+number : (word : List ℕ) → Holds wants.Number word → (word ≡ decimal (number_of word)) × (number_of word ≤ GREATEST_NUMBER)
 number word e =
     let nine : 9 ≤ GREATEST_NUMBER = omega arith in
     let small : GREATEST_NUMBER < 2 ^ 64 = omega arith in
     spelled GREATEST_NUMBER (spelled_number GREATEST_NUMBER word) word (and_parts (is_text word) (is_wanted wants.Number word) e).1
     (found_of GREATEST_NUMBER nine small word (spelled_number GREATEST_NUMBER word) refl)
 
-line : (word : List ℕ) → Holds wants.Line word → word ≡ decimal (line_of word)
+line : (word : List ℕ) → Holds wants.Line word → (word ≡ decimal (line_of word)) × (line_of word ≤ GREATEST_LINE)
 line word e =
     let nine : 9 ≤ GREATEST_LINE = omega arith in
     let small : GREATEST_LINE < 2 ^ 64 = omega arith in
     spelled GREATEST_LINE (spelled_number GREATEST_LINE word) word (and_parts (is_text word) (is_wanted wants.Line word) e).1
     (found_of GREATEST_LINE nine small word (spelled_number GREATEST_LINE word) refl)
+
+any : (word : List ℕ) → Holds wants.Any word → is_text word ≡ true
+any word e = (and_parts (is_text word) (is_wanted wants.Any word) e).0
 
 there : (o : Option ℕ) → is_some o ≡ true → o ≡ Some (unwrap_or o 0)
 there None e = absurd cc
@@ -106,22 +109,27 @@ same_4 : (a a2 b b2 c c2 d d2 : List ℕ) → a ≡ a2 → b ≡ b2 → c ≡ c2
     → ◌≡◌ {A = List (List ℕ)} (a ∷ b ∷ c ∷ d ∷ []) (a2 ∷ b2 ∷ c2 ∷ d2 ∷ [])
 same_4 a a2 b b2 c c2 d d2 e f g h = cc
 
-spell : (k : Keyword) (words : List (List ℕ)) → wrong_place is_wanted (places_of k) words ≡ None → Spells k words
+pub spell : (k : Keyword) (words : List (List ℕ)) → wrong_place is_wanted (places_of k) words ≡ None → Spells k words
 spell keywords.Units =
     one (Spells keywords.Units) (wants.This keywords.Units) (λ a e. same_1 a (codes "units") (keyword keywords.Units a e))
 spell keywords.Files =
     two (Spells keywords.Files) (wants.This keywords.Files) wants.Number
-    (λ a b e f. same_2 a (codes "files") b (decimal (number_of b)) (keyword keywords.Files a e) (number b f))
+    (λ a b e f. (same_2 a (codes "files") b (decimal (number_of b)) (keyword keywords.Files a e) (number b f).0, (number b f).1))
 spell keywords.Tag =
     three (Spells keywords.Tag) (wants.This keywords.Tag) wants.Number wants.Any
-    (λ a b c e f g. same_3 a (codes "tag") b (decimal (number_of b)) c (keyword keywords.Tag a e) (number b f))
+    (λ a b c e f g. (same_3 a (codes "tag") b (decimal (number_of b)) c (keyword keywords.Tag a e) (number b f).0, (number b f).1, any c g))
 spell keywords.Type =
     three (Spells keywords.Type) (wants.This keywords.Type) wants.Number wants.Any
-    (λ a b c e f g. same_3 a (codes "type") b (decimal (number_of b)) c (keyword keywords.Type a e) (number b f))
+    (λ a b c e f g. (same_3 a (codes "type") b (decimal (number_of b)) c (keyword keywords.Type a e) (number b f).0, (number b f).1, any c g))
 spell keywords.Number =
     four (Spells keywords.Number) (wants.This keywords.Number) wants.Number wants.Number wants.Number
-    (λ a b c d e f g h. same_4 a (codes "number") b (decimal (number_of b)) c (decimal (number_of c)) d (decimal (number_of d))
-    (keyword keywords.Number a e) (number b f) (number c g) (number d h))
+    (λ a b c d e f g h. (
+      same_4 a (codes "number") b (decimal (number_of b)) c (decimal (number_of c)) d (decimal (number_of d))
+          (keyword keywords.Number a e) (number b f).0 (number c g).0 (number d h).0,
+      (number b f).1,
+      (number c g).1,
+      (number d h).1,
+    ))
 spell keywords.Scope =
     two (Spells keywords.Scope) (wants.This keywords.Scope) wants.Address
     (λ a b e f. (b, same_2 a (codes "scope") b b (keyword keywords.Scope a e) refl, address b f))
@@ -130,7 +138,7 @@ spell keywords.Line =
     (λ a b e f. (b, same_2 a (codes "line") b b (keyword keywords.Line a e) refl, address b f))
 spell keywords.Addresses =
     three (Spells keywords.Addresses) (wants.This keywords.Addresses) wants.Any wants.Line
-    (λ a b c e f g. same_addresses a b c (keyword keywords.Addresses a e) (line c g))
+    (λ a b c e f g. (same_addresses a b c (keyword keywords.Addresses a e) (line c g).0, any b f, (line c g).1))
   where
     same_addresses : (a b c : List ℕ) → a ≡ codes "addresses" → c ≡ decimal (line_of c)
         → ◌≡◌ {A = List (List ℕ)} (a ∷ b ∷ c ∷ []) (codes "addresses" ∷ b ∷ decimal (line_of c) ∷ [])
@@ -138,7 +146,7 @@ spell keywords.Addresses =
 
 -- ---- the form that is found
 
-right : (keywords : List Keyword) (words : List (List ℕ)) (furthest : ℕ) (k : Keyword) → form_from keywords words furthest ≡ Ok k
+pub right : (keywords : List Keyword) (words : List (List ℕ)) (furthest : ℕ) (k : Keyword) → form_from keywords words furthest ≡ Ok k
     → wrong_place is_wanted (places_of k) words ≡ None
 unfolding form_from
 right [] words furthest k e = absurd cc

@@ -2,11 +2,11 @@
 -- line ends in a line feed. This is this project's own.
 use Rattle.std.specs.Prelude.{◌≡◌, ℕ, ◌+◌, List, [], ◌∷◌, ◌++◌, length, codes, decimal, Option, Some, None}
 use Rattle.st_base.specs.Shown.{shown}
-use Rattle.stab_grammar.specs.declared.tree.Key.{Key}
-use Rattle.stab_grammar.specs.declared.tree.TypeTree.{TypeTree}
-use Rattle.stab_grammar.specs.declared.tree.Symbol.{Symbol}
-use Rattle.stab_grammar.specs.Spelling.{letters}
-use Rattle.stab_grammar.specs.Surface.{placed}
+use Rattle.stab_symbols.specs.declared.tree.Key.{Key}
+use Rattle.stab_symbols.specs.declared.tree.TypeTree.{TypeTree}
+use Rattle.stab_symbols.specs.declared.tree.Symbol.{Symbol}
+use Rattle.stab_symbols.specs.SymbolSpelling.{letters}
+use Rattle.stab_symbols.specs.Surface.{placed}
 use Rattle.stab_units.specs.declared.unit.Unit.{Unit}
 use Rattle.type_graph.specs.Types.{definition_of, name_of}
 use Rattle.type_graph.specs.Listings.{IsListing}

@@ -1,16 +1,17 @@
 -- Queries: the words of each form, and what words ask. This is this project's own.
-use Rattle.std.specs.Prelude.{◌≡◌, ℕ, ◌+◌, max, List, [], ◌∷◌, codes, decimal, Option, Some, None, Result, Ok, Err}
+use Rattle.std.specs.Prelude.{◌≡◌, ◌≤◌, ◌<◌, ℕ, ◌+◌, max, true, List, [], ◌∷◌, ◌++◌, length, take, codes, decimal, Option, Some, None, Result, Ok, Err}
 use Rattle.st_base.specs.declared.fault.TheConstants.{QUERY}
 use Rattle.st_base.specs.declared.fault.Refused.{Refused}
 use Rattle.st_base.specs.declared.fault.Refused.TheVariants as refused
 use Rattle.st_base.specs.Faults.{fault_at}
 use Rattle.query_text.specs.declared.query.Query.{Query}
 use Rattle.query_text.specs.declared.query.Query.TheVariants as queries
+use Rattle.query_text.specs.declared.want.TheConstants.{GREATEST_NUMBER, GREATEST_LINE}
 use Rattle.query_text.specs.declared.want.Keyword.{Keyword}
 use Rattle.query_text.specs.declared.want.Keyword.TheVariants as keywords
 use Rattle.query_text.specs.declared.want.Want.{Want}
 use Rattle.query_text.specs.declared.want.Want.TheVariants as wants
-use Rattle.query_text.specs.Places.{wrong_place}
+use Rattle.query_text.specs.Places.{is_text, wrong_place}
 use Rattle.query_text.specs.Words.{is_wanted, word_at, number_of, line_of, address_of, spelled_address}
 
 -- ---- the forms
@@ -63,7 +64,7 @@ form_from [] words furthest = Err furthest
 form_from (keyword ∷ others) words furthest =
     go_on keyword furthest (form_from others words) (wrong_place is_wanted (places_of keyword) words)
 
--- the form that the words are of, by its keyword; else the wrong place, which is the furthest that a form tells
+-- the form that the words are of, by its keyword; else the wrong place, which is the furthest up to which a form goes along
 abbrev pub form_of : List (List ℕ) → Result Keyword ℕ
 form_of words = form_from all_keywords words 0
 
@@ -78,16 +79,33 @@ asked words = asked_by (form_of words) words
 
 -- ---- the words of a query
 
--- the words spell the query: its keyword and its operands, a number in decimal and an address as some word spells it
+-- the words spell the query: its keyword and its operands. A number is in decimal and at most the greatest of its place, an address is as
+-- some word spells it, and a name is UTF-8
 abbrev pub Spell : List (List ℕ) → Query → Type 0
 Spell words queries.Units = words ≡ codes "units" ∷ []
-Spell words (queries.Files unit) = words ≡ codes "files" ∷ decimal unit ∷ []
-Spell words (queries.TagNamed unit name) = words ≡ codes "tag" ∷ decimal unit ∷ name ∷ []
-Spell words (queries.TypeNamed unit name) = words ≡ codes "type" ∷ decimal unit ∷ name ∷ []
-Spell words (queries.Number unit file number) = words ≡ codes "number" ∷ decimal unit ∷ decimal file ∷ decimal number ∷ []
+Spell words (queries.Files unit) = (words ≡ codes "files" ∷ decimal unit ∷ []) × (unit ≤ GREATEST_NUMBER)
+Spell words (queries.TagNamed unit name) = (words ≡ codes "tag" ∷ decimal unit ∷ name ∷ []) × (unit ≤ GREATEST_NUMBER) × (is_text name ≡ true)
+Spell words (queries.TypeNamed unit name) = (words ≡ codes "type" ∷ decimal unit ∷ name ∷ []) × (unit ≤ GREATEST_NUMBER) × (is_text name ≡ true)
+Spell words (queries.Number unit file number) =
+    (words ≡ codes "number" ∷ decimal unit ∷ decimal file ∷ decimal number ∷ []) × (unit ≤ GREATEST_NUMBER) × (file ≤ GREATEST_NUMBER) × (number ≤ GREATEST_NUMBER)
 Spell words (queries.Scope address) = (word : List ℕ) × (words ≡ codes "scope" ∷ word ∷ []) × (spelled_address word ≡ Some address)
 Spell words (queries.Line address) = (word : List ℕ) × (words ≡ codes "line" ∷ word ∷ []) × (spelled_address word ≡ Some address)
-Spell words (queries.Addresses file line) = words ≡ codes "addresses" ∷ file ∷ decimal line ∷ []
+Spell words (queries.Addresses file line) = (words ≡ codes "addresses" ∷ file ∷ decimal line ∷ []) × (is_text file ≡ true) × (line ≤ GREATEST_LINE)
+
+-- words that ask a query spell it; where they ask none, they spell none
+abbrev pub SaysWhat : List (List ℕ) → Result Query ℕ → Type 0
+SaysWhat words (Ok query) = Spell words query
+SaysWhat words (Err wrong) = (query : Query) → Spell words query → ⊥
+
+-- words begin a query: with more words after them they spell one
+abbrev pub Begin : List (List ℕ) → Type 0
+Begin words = (more : List (List ℕ)) × (query : Query) × Spell (words ++ more) query
+
+-- words go wrong at this place: those before it begin a query, and with the word at it, where one stands there, they begin none
+pub record IsWrong (words : List (List ℕ)) (at : ℕ) : Type 0 where
+  pub within : at ≤ length words
+  pub begun : Begin (take at words)
+  pub ends : at < length words → Begin (take (at + 1) words) → ⊥
 
 -- ---- a call that reads words from a place on
 
@@ -100,3 +118,9 @@ Refuses from (refused.At fault) asked = (at : ℕ) × (asked ≡ Err at) × (fau
 abbrev pub Reads : ℕ → Result Query Refused → Result Query ℕ → Type 0
 Reads from (Ok query) asked = asked ≡ Ok query
 Reads from (Err refusal) asked = Refuses from refusal asked
+
+-- the call answers this query, unless out of memory
+abbrev pub IsRead : Result Query Refused → Query → Type 0
+IsRead (Ok answer) query = answer ≡ query
+IsRead (Err refused.Memory) query = Unit {0}
+IsRead (Err (refused.At fault)) query = ⊥

@@ -35,7 +35,7 @@ digit_value b =
     else if nat_le 65 b && nat_le b 70 then Some (b - 65 + 10)
     else None
 
--- the number that hexadecimal digits spell behind others that spell `value`
+-- the number that hexadecimal digits spell after others that spell `value`
 abbrev pub digits_on : ℕ → List ℕ → Option ℕ
 digits_on value [] = Some value
 digits_on value (b ∷ digits) = option_and_then (λ digit. digits_on (16 * value + digit) digits) (digit_value b)

@@ -2,8 +2,8 @@
 
 ghost use Rattle.std.specs.Prelude.{◌≡◌, ◌++◌, List, IfOk, OnOk};
 ghost use Rattle.std.specs.Option.{option_copied};
-ghost use Rattle.stab_grammar.specs.declared.tree.Key.{Key as KeyValue};
-ghost use Rattle.stab_grammar.specs.Surface.{ArePlaces};
+ghost use Rattle.stab_symbols.specs.declared.tree.Key.{Key as KeyValue};
+ghost use Rattle.stab_symbols.specs.Surface.{ArePlaces};
 ghost use Rattle.query_text.specs.Listed as spec;
 
 use st_base::{Memory, Text, put_number, show};

@@ -3,6 +3,7 @@
 ghost use Rattle.std.specs.Prelude.{◌≡◌, ◌≤◌, length, drop, max, IfOk, IfErr};
 ghost use Rattle.query_text.specs.Words as words_spec;
 ghost use Rattle.query_text.specs.Queries as spec;
+ghost use Rattle.query_text.specs.declared.query.Query.{Query as AnyQuery};
 
 use crate::address::address_of;
 use crate::places::wrong_place;
@@ -126,7 +127,7 @@ fn read_from(alloc: Global, words: &List<Text>, from: usize) -> Result<Query, Re
     }
 }
 
-/// The query that the words from place `from` on are.
+/// The query that the words from place `from` on are: that which they spell, and they spell one at most (`asking_law`).
 ///
 /// Refused with `QUERY` where they are none; the place is that of the first wrong word, the number of all words where one is
 /// missing, or that of the first word too many, counted from 0 in the whole list. A word that is not UTF-8 is wrong wherever it
@@ -135,6 +136,7 @@ pub fn read_query(alloc: Global, words: &List<Text>, from: usize) -> Result<Quer
     requires { from ≤ length words.now }
     ensures reads { spec.Reads from result (spec.asked (drop from words.now)) }
     ensures spelled { IfOk result (λ query. spec.Spell (drop from words.now) query) }
+    ensures read { (query : AnyQuery) → spec.Spell (drop from words.now) query → spec.IsRead result query }
 {
     read_from(alloc, words, from)
 }

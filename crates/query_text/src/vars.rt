@@ -2,7 +2,7 @@
 
 ghost use Rattle.std.specs.Prelude.{◌≡◌, ◌++◌, OnOk};
 ghost use Rattle.std.specs.Option.{option_copied};
-ghost use Rattle.stab_grammar.specs.Spelling.{letters};
+ghost use Rattle.stab_symbols.specs.SymbolSpelling.{letters};
 ghost use Rattle.query_text.specs.Externals.{look};
 ghost use Rattle.query_text.specs.Vars as spec;
 

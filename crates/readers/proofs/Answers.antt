@@ -50,7 +50,7 @@ module _ (n : ℕ) {A : Type 0} (r : Reader A) (F : Form A) (follows : ℕ → B
   left_in text stop.End e = tt
   left_in text (stop.Deep left) e = firsts.deep_in n r F follows laws text left e
 
-  -- a refusal of the code can be told with its place
+  -- a refusal of the code can be reported with its place
   pub may_tell : (text : List ℕ) (e : Refusal) → Fails e (whole text) → LeavesWithin (length text) e
   may_tell text refusal.Memory g = tt
   may_tell text (refusal.At s) g = left_in text s g

@@ -25,11 +25,11 @@ module _ (n : ℕ) {A : Type 0} (r : Reader A) (F : Form A) (follows : ℕ → B
   cuts' : (a : A) → cut n (G.print a) (G.depths a) ≡ later b (cut n (F.print a) (F.depths a))
   cuts' a = rw (zero_not n) refl
 
-  -- behind b r reads
+  -- after b r reads
   own : (rest : List ℕ) → it (b ∷ rest) ≡ r rest
   own rest = rw (eqb_self b) refl
 
-  -- the spelling behind b
+  -- the spelling after b
   takes : (bytes : List ℕ) (a : A) (rest : List ℕ) → it bytes ≡ Ok (a, rest) → (bytes ≡ G.print a ++ rest) × F.shaped a × Within n (G.depths a)
   takes [] a rest e = absurd cc
   takes (c ∷ bytes) a rest e =
@@ -44,7 +44,7 @@ module _ (n : ℕ) {A : Type 0} (r : Reader A) (F : Form A) (follows : ℕ → B
       let k = later_some b (cut n (F.print a) (F.depths a)) front x (sym (cuts' a) ∙ e) in
       ap (λ (z : List ℕ). it (z ++ (x ∷ more))) k.2 ∙ own (k.0 ++ (x ∷ more)) ∙ laws.dives a k.0 x more f k.1
 
-  -- the byte behind decides
+  -- the byte after it decides
   holds : (bytes : List ℕ) (a : A) (x : ℕ) (more other : List ℕ) → it bytes ≡ Ok (a, x ∷ more) → it (G.print a ++ (x ∷ other)) ≡ Ok (a, x ∷ other)
   holds [] a x more other e = absurd cc
   holds (c ∷ bytes) a x more other e =
@@ -53,7 +53,7 @@ module _ (n : ℕ) {A : Type 0} (r : Reader A) (F : Form A) (follows : ℕ → B
         | inr miss ↦ let f = rw miss at e in absurd cc
       ]
 
-  -- the front of a spelling behind b
+  -- the front of a spelling after b
   begun : (text : List ℕ) → Begun F.print F.shaped text → Begun G.print G.shaped (b ∷ text)
   begun text g = record { whole = g.whole; is_shaped = g.is_shaped; more = g.more; spelled = ap (λ (z : List ℕ). b ∷ z) g.spelled }
 

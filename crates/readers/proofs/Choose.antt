@@ -32,7 +32,7 @@ module _ (n : ℕ) {A B : Type 0} (r : Reader A) (F : Form A) (follows : ℕ →
     (spelled : (a : A) → print (make a) ≡ b ∷ F.print a) (marked : (a : A) → depths (make a) ≡ 0 ∷ F.depths a)
     (other : Reader B) (rest_shaped : B → Type 0) (others : Laws n other (record { print = print; depths = depths; shaped = rest_shaped }) follows)
     (apart : (t : B) → rest_shaped t → Apart b (print t)) (t₀ : A) (shaped₀ : F.shaped t₀) where
-  -- the reader behind b
+  -- the reader after b
   abbrev q : Reader B
   q = made make r
 
@@ -85,7 +85,7 @@ module _ (n : ℕ) {A B : Type 0} (r : Reader A) (F : Form A) (follows : ℕ →
       let w = cut_front n (print t) (depths t) front x e in
       passes b q other (print t) front x w.0 more (apart t f) w.1 ∙ others.dives t front x more f e
 
-  -- the byte behind decides
+  -- the byte after it decides
   choose_holds : (bytes : List ℕ) (t : B) (x : ℕ) (more more' : List ℕ) → choose b q other bytes ≡ Ok (t, x ∷ more) → choose b q other (print t ++ (x ∷ more')) ≡ Ok (t, x ∷ more')
   choose_holds [] t x more more' e = absurd cc
   choose_holds (c ∷ bytes) t x more more' e =
@@ -101,7 +101,7 @@ module _ (n : ℕ) {A B : Type 0} (r : Reader A) (F : Form A) (follows : ℕ →
             passes b q other (c ∷ bytes) (print t) x more more' miss k.0 ∙ others.holds (c ∷ bytes) t x more more' f
       ]
 
-  -- the front of a spelling behind b
+  -- the front of a spelling after b
   begun_made : (text : List ℕ) → Begun F.print F.shaped text → Begun print either (b ∷ text)
   begun_made text g = record {
     whole = make g.whole;

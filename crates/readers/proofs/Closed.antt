@@ -1,4 +1,4 @@
--- Nothing more, one byte, and a value with a byte behind it keep the laws.
+-- Nothing more, one byte, and a value with a byte after it keep the laws.
 use Rattle.std.proofs.Common.{◌≡◌, ℕ, Bool, true, List, [], ◌∷◌, ◌++◌, Ok, refl, ap, subst}
 use Rattle.readers.specs.Spelling.{Form}
 use Rattle.readers.specs.Readers.{Reader, seq, done, byte_at, closed}
@@ -43,11 +43,11 @@ byte_laws n b = behind_laws n done empty_form any (done_laws n) b tt tt
 
 -- ---- a value and then a byte
 
--- a byte behind each spelling
+-- a byte after each spelling
 abbrev pub closed_form : {A : Type 0} → Form A → ℕ → Form A
 closed_form F b = record { print = λ a. F.print a ++ (b ∷ []); depths = λ a. F.depths a ++ (0 ∷ []); shaped = F.shaped }
 
--- a byte behind keeps the laws
+-- a byte after keeps the laws
 pub closed_laws : (n : ℕ) {A : Type 0} (r : Reader A) (F : Form A) (follows : ℕ → Bool) → Laws n r F follows → (b : ℕ) → follows b ≡ true → Laws n (closed r b) (closed_form F b) any
 closed_laws n {A = A} r F follows laws b may =
     let both = seq_laws n r F follows laws (byte_at b) (byte_form b) any (byte_laws n b) (λ u rest f after. may) tt tt in

@@ -8,7 +8,7 @@ use Rattle.readers.proofs.Cases.{which}
 
 -- ---- what follows a spelling
 
--- what stands behind a text passes the test, or nothing stands there
+-- what stands after a text passes the test, or nothing stands there
 abbrev pub After : (ℕ → Bool) → List ℕ → Type 0
 After follows [] = Unit {0}
 After follows (b ∷ rest) = follows b ≡ true
@@ -60,19 +60,19 @@ shift_nil : (o : Option (List ℕ × ℕ)) → shift [] o ≡ o
 shift_nil None = refl
 shift_nil (Some x) = refl
 
--- a cut behind one byte
+-- a cut after one byte
 pub later_some : (c : ℕ) (o : Option (List ℕ × ℕ)) (f : List ℕ) (b : ℕ) → later c o ≡ Some (f, b) → (g : List ℕ) × (o ≡ Some (g, b)) × (f ≡ c ∷ g)
 later_some c None f b e = absurd cc
 later_some c (Some x) f b e =
     let k = some_pair_parts (c ∷ x.0) f x.1 b e in
     (x.0, ap (λ (z : ℕ). Some (x.0, z)) k.1, sym k.0)
 
--- no cut behind one byte
+-- no cut after one byte
 pub later_none : (c : ℕ) (o : Option (List ℕ × ℕ)) → later c o ≡ None → o ≡ None
 later_none c None e = refl
 later_none c (Some x) e = absurd cc
 
--- what lies one byte behind begins somewhere
+-- what lies one byte further begins somewhere
 later_is : (c : ℕ) (o : Option (List ℕ × ℕ)) (x : List ℕ × ℕ) → later c o ≡ Some x → (y : List ℕ × ℕ) × (o ≡ Some y)
 later_is c None x e = absurd cc
 later_is c (Some y) x e = (y, refl)

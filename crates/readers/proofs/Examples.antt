@@ -195,7 +195,7 @@ place_1 = refl
 place_of_end : placed 2 stop.End ≡ fault.End 2
 place_of_end = refl
 
--- a refusal is told with that place, and out of memory without one
+-- a refusal is reported with that place, and out of memory without one
 told_at_1 : told 2 (refusal.At (stop.Bad 1)) ≡ unread.At (fault.Byte 1)
 told_at_1 = refl
 

@@ -14,7 +14,7 @@ use Rattle.readers.proofs.Cuts.{cut, cut_front, within_cut}
 use Rattle.readers.proofs.Laws.{Breaks, Laws}
 use Rattle.readers.proofs.Fronts.{spot, place_is, front_of, begun_take, begun_taken, cut_opens, opens_cut}
 
--- the end of the text, or the first byte behind
+-- the end of the text, or the first byte after it
 abbrev last : {A : Type 0} → A × List ℕ → Result A Stop
 last x = cond (eqb (length x.1) 0) (Ok x.0) (Err (Bad (length x.1)))
 
@@ -75,7 +75,7 @@ module _ (n : ℕ) {A : Type 0} (r : Reader A) (F : Form A) (follows : ℕ → B
         | inr h ↦ bad_deep (r (F.print g.whole)) _ h.0 broken h.1
       ]
 
-  -- nor with a byte behind what was read
+  -- nor with a byte after what was read
   none_longer : (bytes : List ℕ) (a : A) (b : ℕ) (more : List ℕ) → r bytes ≡ Ok (a, b ∷ more) → Front (F.print a ++ (b ∷ [])) → ⊥
   none_longer bytes a b more e g =
       let text : F.print g.whole ≡ F.print a ++ (b ∷ g.more) = g.spelled ∙ regroup (F.print a) b g.more in
@@ -184,7 +184,7 @@ module _ (n : ℕ) {A : Type 0} (r : Reader A) (F : Form A) (follows : ℕ → B
         | inr h ↦ end_deep (r text) h.0 e (ap r (sym is) ∙ h.1)
       ]
 
-  -- a byte behind what was read is the first fault
+  -- a byte after what was read is the first fault
   trailing : (text : List ℕ) (x : A × List ℕ) (s : Stop) → r text ≡ Ok x → last x ≡ Err s → IsFirstFault n F text (placed (length text) s)
   trailing text (a, []) s is e = absurd cc
   trailing text (a, b ∷ rest) s is e =

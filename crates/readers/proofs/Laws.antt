@@ -18,7 +18,7 @@ pub record Breaks {A : Type 0} (r : Reader A) (F : Form A) (bytes : List ℕ) (l
   pub stays : (other : List ℕ) → r (front ++ (byte ∷ other)) ≡ Err (Bad (length (byte ∷ other)))
   pub begun : Begun F.print F.shaped front
 
--- behind the text before the fault a type of depth n + 1 begins with this byte
+-- after the text before the fault a type of depth n + 1 begins with this byte
 pub record Dives (n : ℕ) {A : Type 0} (F : Form A) (bytes : List ℕ) (left : ℕ) : Type 0 where
   pub front : List ℕ
   pub byte : ℕ
@@ -29,19 +29,19 @@ pub record Dives (n : ℕ) {A : Type 0} (F : Form A) (bytes : List ℕ) (left : 
   pub is_shaped : F.shaped whole
   pub first : cut n (F.print whole) (F.depths whole) ≡ Some (front, byte)
 
--- the laws of a reader r of the form F, whose nodes may be n deep; `follows` tells which bytes may stand behind a spelling
+-- the laws of a reader r of the form F, whose nodes may be n deep; `follows` says which bytes may stand after a spelling
 pub record Laws (n : ℕ) {A : Type 0} (r : Reader A) (F : Form A) (follows : ℕ → Bool) : Type 0 where
-  -- what is read stands in front of the rest, has a spelling, and is at most n deep
+  -- what is read stands before the rest, has a spelling, and is at most n deep
   pub takes : (bytes : List ℕ) (a : A) (rest : List ℕ) → r bytes ≡ Ok (a, rest) → (bytes ≡ F.print a ++ rest) × F.shaped a × Within n (F.depths a)
   -- a spelling that is not too deep has a depth for each of its bytes
   pub long : (a : A) → F.shaped a → cut n (F.print a) (F.depths a) ≡ None → length (F.depths a) ≡ length (F.print a)
-  -- such a spelling is read, if what stands behind it may follow
+  -- such a spelling is read, if what stands after it may follow
   pub again : (a : A) (rest : List ℕ) → F.shaped a → cut n (F.print a) (F.depths a) ≡ None → After follows rest → r (F.print a ++ rest) ≡ Ok (a, rest)
   -- one that is too deep is read up to the first node that is, whatever follows
   pub dives : (a : A) (front : List ℕ) (b : ℕ) (other : List ℕ) → F.shaped a → cut n (F.print a) (F.depths a) ≡ Some (front, b) → r (front ++ (b ∷ other)) ≡ Err (Deep (length (b ∷ other)))
-  -- the byte behind what was read decides: with any other text behind that byte the same is read
+  -- the byte after what was read decides: with any other text after that byte the same is read
   pub holds : (bytes : List ℕ) (a : A) (b : ℕ) (more other : List ℕ) → r bytes ≡ Ok (a, b ∷ more) → r (F.print a ++ (b ∷ other)) ≡ Ok (a, b ∷ other)
-  -- a wrong byte stands behind the front of a spelling, and is wrong whatever follows
+  -- a wrong byte stands after the front of a spelling, and is wrong whatever follows
   pub bad : (bytes : List ℕ) (left : ℕ) → r bytes ≡ Err (Bad left) → Breaks r F bytes left
   -- where reading stops as too deep, some spelling has a node that is
   pub deep : (bytes : List ℕ) (left : ℕ) → r bytes ≡ Err (Deep left) → Dives n F bytes left
@@ -50,7 +50,7 @@ pub record Laws (n : ℕ) {A : Type 0} (r : Reader A) (F : Form A) (follows : �
 
 -- ---- one byte in front
 
--- a wrong byte behind b, of a reader that takes b and then reads as another
+-- a wrong byte after b, of a reader that takes b and then reads as another
 pub Breaks-behind : {A B : Type 0} (r : Reader A) (F : Form A) (it : Reader B) (G : Form B) (b c : ℕ) (bytes : List ℕ) (left : ℕ) → eqb c b ≡ true → (k : Breaks r F bytes left)
     → ((other : List ℕ) → it (b ∷ (k.front ++ (k.byte ∷ other))) ≡ Err (Bad (length (k.byte ∷ other)))) → Begun G.print G.shaped (b ∷ k.front) → Breaks it G (c ∷ bytes) left
 Breaks-behind r F it G b c bytes left hit k stays begun = record {
@@ -63,7 +63,7 @@ Breaks-behind r F it G b c bytes left hit k stays begun = record {
   begun = begun;
 }
 
--- a node behind b that is too deep, of a value whose spelling is b and then another's
+-- a node after b that is too deep, of a value whose spelling is b and then another's
 pub Dives-behind : (n : ℕ) {A B : Type 0} (F : Form A) (G : Form B) (b c : ℕ) (bytes : List ℕ) (left : ℕ) → eqb c b ≡ true → (k : Dives n F bytes left) (whole : B) → G.shaped whole
     → cut n (G.print whole) (G.depths whole) ≡ later b (cut n (F.print k.whole) (F.depths k.whole)) → Dives n G (c ∷ bytes) left
 Dives-behind n F G b c bytes left hit k whole is_shaped cuts = record {

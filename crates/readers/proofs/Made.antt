@@ -46,7 +46,7 @@ module _ (n : ℕ) {A B : Type 0} (r : Reader A) (F : Form A) (follows : ℕ →
   dives b front x other f = subst (λ (z : B). cut n (print z) (depths z) ≡ Some (front, x) → made make r (front ++ (x ∷ other)) ≡ Err (Deep (length (x ∷ other)))) f.2
       (λ e. rw (laws.dives f.0 front x other f.1 (sym (cuts f.0 f.1) ∙ e)) refl)
 
-  -- the byte behind it decides
+  -- the byte after it decides
   holds : (bytes : List ℕ) (b : B) (x : ℕ) (more other : List ℕ) → made make r bytes ≡ Ok (b, x ∷ more) → made make r (print b ++ (x ∷ other)) ≡ Ok (b, x ∷ other)
   holds bytes b x more other e =
       let h = made_ok make (r bytes) b (x ∷ more) e in

@@ -1,4 +1,4 @@
--- Any number of items, and the byte behind them, keep the laws. With a bound on their number that is an induction on the
+-- Any number of items, and the byte after them, keep the laws. With a bound on their number that is an induction on the
 -- bound; and a bound that is not below the length of the text makes no difference.
 use Rattle.std.proofs.Common.{◌≡◌, ℕ, zero, suc, ◌+◌, ◌≤◌, ◌⊎◌, inl, inr, eqb, List, [], ◌∷◌, ◌++◌, length, Err, refl, sym, ap, subst, ◌∙◌, arith, length-append}
 use Rattle.readers.specs.declared.stop.Stop.TheVariants.{Bad}
@@ -33,7 +33,7 @@ split_same (x ∷ f) (y ∷ g) b c r s e l =
     let k = split_same f g b c r s tails l in
     (ap (λ (z : ℕ). z ∷ f) heads ∙ ap (λ (z : List ℕ). y ∷ z) k.0, k.1)
 
--- a text that begins otherwise, with more behind it
+-- a text that begins otherwise, with more after it
 apart_more : (b : ℕ) (p q : List ℕ) → Apart b p → Apart b (p ++ q)
 apart_more b [] q a = absurd a
 apart_more b (c ∷ p) q a = a

@@ -186,7 +186,7 @@ module _ (limit : ℕ) (nine : 9 ≤ limit) (small : limit < 2 ^ 64) where
       let stops : goes_on limit (suc a) b ≡ false = rw (not-true (is_digit b) after) refl in
       reads (suc a) (omega arith) (omega arith) le (b ∷ rest) ∙ ap (λ (z : ℕ × List ℕ). Ok z) (stopped (suc a) b rest stops)
 
-  -- the byte behind decides
+  -- the byte after it decides
   holds : (bytes : List ℕ) (a b : ℕ) (more other : List ℕ) → number_at limit bytes ≡ Ok (a, b ∷ more) → number_at limit (decimal a ++ (b ∷ other)) ≡ Ok (a, b ∷ other)
   holds [] a b more other e = let f = sym empty_ends ∙ e in absurd cc
   holds (c ∷ bytes) a b more other e =

@@ -32,7 +32,7 @@ module _ (n : ℕ) {A : Type 0} (r : Reader A) (F : Form A) (follows : ℕ → B
   abbrev G : Form (Option A)
   G = opt_form b F
 
-  -- behind b r reads
+  -- after b r reads
   own : (rest : List ℕ) → it (b ∷ rest) ≡ (r rest >>= remade Some)
   own rest = rw (eqb_self b) refl
 
@@ -82,7 +82,7 @@ module _ (n : ℕ) {A : Type 0} (r : Reader A) (F : Form A) (follows : ℕ → B
       let k = later_some b (cut n (F.print a) (F.depths a)) front x (sym (cuts a) ∙ e) in
       ap (λ (z : List ℕ). it (z ++ (x ∷ other))) k.2 ∙ own (k.0 ++ (x ∷ other)) ∙ rw (laws.dives a k.0 x other f k.1) refl
 
-  -- the byte behind decides
+  -- the byte after it decides
   holds : (bytes : List ℕ) (o : Option A) (x : ℕ) (more other : List ℕ) → it bytes ≡ Ok (o, x ∷ more) → it (G.print o ++ (x ∷ other)) ≡ Ok (o, x ∷ other)
   holds [] o x more other e = let p = ok_parts (it []) (it []) None o [] (x ∷ more) refl e refl in let q : [] ≡ x ∷ more = p.1 in absurd cc
   holds (c ∷ bytes) o x more other e =
@@ -101,7 +101,7 @@ module _ (n : ℕ) {A : Type 0} (r : Reader A) (F : Form A) (follows : ℕ → B
             subst (λ (z : Option A). it (G.print z ++ (x ∷ other)) ≡ Ok (z, x ∷ other)) p.0 at_none
       ]
 
-  -- the front of a spelling behind b
+  -- the front of a spelling after b
   begun : (text : List ℕ) → Begun F.print F.shaped text → Begun G.print G.shaped (b ∷ text)
   begun text g = record { whole = Some g.whole; is_shaped = g.is_shaped; more = g.more; spelled = ap (λ (z : List ℕ). b ∷ z) g.spelled }
 

@@ -77,7 +77,7 @@ module _ (test : ℕ → Bool) where
   run_again (suc k) [] (b ∷ rest) f after = on_stop k b rest (not-true (test b) after)
   run_again (suc k) (d ∷ ds) rest f after = on_more k d (ds ++ rest) f.0.0 ∙ rw (run_again k ds rest (f.0.1, omega (arith, f.1)) after) refl
 
-  -- the byte behind decides
+  -- the byte after it decides
   run_holds : (k : ℕ) (bytes ds : List ℕ) (b : ℕ) (more other : List ℕ) → run_on test k bytes ≡ Ok (ds, b ∷ more) → run_on test k (ds ++ (b ∷ other)) ≡ Ok (ds, b ∷ other)
   run_holds zero bytes ds b more other is =
       let p = ok_parts (run_on test zero bytes) (run_on test zero bytes) [] ds bytes (b ∷ more) (on_full bytes) is refl in
@@ -148,7 +148,7 @@ module _ (test : ℕ → Bool) where
     at_again [] rest f after = absurd (omega (arith, f.0))
     at_again (d ∷ ds) rest f after = at_more d (ds ++ rest) f.1.0.0 ∙ rw (run_again k ds rest (f.1.0.1, omega (arith, f.1.1)) after) refl
 
-    -- the byte behind decides
+    -- the byte after it decides
     at_holds : (bytes ds : List ℕ) (b : ℕ) (more other : List ℕ) → run_at test k bytes ≡ Ok (ds, b ∷ more) → run_at test k (ds ++ (b ∷ other)) ≡ Ok (ds, b ∷ other)
     at_holds [] ds b more other is = let f = sym at_end ∙ is in absurd cc
     at_holds (c ∷ bytes) ds b more other is =

@@ -125,7 +125,7 @@ module _ (n : ℕ) {A B : Type 0} (r : Reader A) (F : Form A) (follows : ℕ →
             rw one_is refl
       ]
 
-  -- the byte behind both decides
+  -- the byte after both decides
   seq_holds : (bytes : List ℕ) (p : A × B) (b : ℕ) (more other : List ℕ) → seq r s bytes ≡ Ok (p, b ∷ more) → seq r s (H.print p ++ (b ∷ other)) ≡ Ok (p, b ∷ other)
   seq_holds bytes p c more other e =
       let h = split_ok (r bytes) s p (c ∷ more) e in

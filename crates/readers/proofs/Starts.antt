@@ -27,7 +27,7 @@ apart_of test c miss (b ∷ p) s = elim (which (eqb b c)) [
   | inr h ↦ h
 ]
 
--- more behind it
+-- more after it
 pub starts_more : (test : ℕ → Bool) (p q : List ℕ) → Starts test p → Starts test (p ++ q)
 starts_more test [] q s = absurd s
 starts_more test (b ∷ p) q s = s

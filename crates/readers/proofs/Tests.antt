@@ -1,4 +1,4 @@
--- Shapes that are told by tests which compute, in place of facts; and the leaves with such shapes.
+-- Shapes that are given by tests which compute, in place of facts; and the leaves with such shapes.
 use Rattle.std.proofs.Common.{◌≡◌, ℕ, suc, ◌^◌, ◌≤◌, ◌<◌, inl, inr, Bool, true, false, not, eqb, List, [], ◌∷◌, ◌++◌, length, refl, subst}
 use Rattle.std.specs.Prelude.{decimal, nat_le}
 use Rattle.std.proofs.lemmas.Bool.{le-leb, leb-true, eqb-true, not-true, not_from_false, both_ways, and_parts, and_from}
@@ -45,7 +45,7 @@ name_from refused end (b ∷ name) e =
 pub number_part : (n limit : ℕ) → 9 ≤ limit → limit < 2 ^ 64 → Laws n (number_at limit) (leaf decimal (λ k. nat_le k limit ≡ true)) no_digit
 number_part n limit nine small = reshape_laws n (number_at limit) _ no_digit (number_laws limit nine small n) (λ k. nat_le k limit ≡ true) no_digit (λ k le. le-leb k limit le) (λ k e. leb-true k limit e) (λ c e. e)
 
--- the laws of a name and the byte behind it
+-- the laws of a name and the byte after it
 pub name_part : (n : ℕ) (refused : ℕ → Bool) (end : ℕ) → Laws n (name_at refused end) (leaf (λ name. name ++ (end ∷ [])) (λ name. is_name refused end name ≡ true)) any
 name_part n refused end = reshape_laws n (name_at refused end) _ any (name_laws refused end n) (λ name. is_name refused end name ≡ true) any (name_to refused end) (name_from refused end) (λ c e. e)
 
@@ -73,7 +73,7 @@ pub starts_digits : (most : ℕ) (ds : List ℕ) → is_digits most ds ≡ true 
 starts_digits most [] e = absurd cc
 starts_digits most (d ∷ ds) e = (and_parts (is_digit d) (all_of is_digit ds) (and_parts (all_of is_digit (d ∷ ds)) (nat_le (length (d ∷ ds)) most) (and_parts (nat_le 1 (length (d ∷ ds))) _ e).1).0).0
 
--- a name and the byte behind it begin with no byte that a name refuses
+-- a name and the byte after it begin with no byte that a name refuses
 pub name_apart : (refused : ℕ → Bool) (end c : ℕ) → eqb end c ≡ false → refused c ≡ true → (name rest : List ℕ) → is_name refused end name ≡ true → Apart c ((name ++ end ∷ []) ++ rest)
 name_apart refused end c other bar [] rest e = other
 name_apart refused end c other bar (b ∷ name) rest e =

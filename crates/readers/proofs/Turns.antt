@@ -27,12 +27,12 @@ module _ {A : Type 0} where
   abbrev paired : A → List A × List ℕ → Outcome (A × List A)
   paired f y = Ok ((f, y.0), y.1)
 
-  -- an item in front of what follows
+  -- an item before what follows
   pair_cons : (f : A) (v : Outcome (List A)) → (v >>= paired f >>= remade cons) ≡ (v >>= remade (λ xs. f ∷ xs))
   pair_cons f (Ok x) = refl
   pair_cons f (Err d) = refl
 
-  -- the byte behind the items
+  -- the byte after the items
   pub up_to_stop : (b : ℕ) (item : Reader A) (n m : ℕ) (found : List A) (bytes : List ℕ)
       → n ≡ m + 1 → 1 ≤ length bytes → get_or bytes 0 0 ≡ b → with_front found (up_to b item n bytes) ≡ Ok (found, take (length bytes - 1) (drop 1 bytes))
   up_to_stop b item n m found [] e some is = absurd (omega (arith, some))
@@ -69,14 +69,14 @@ module _ {A : Type 0} where
 -- ---- the bytes of a name, by their places
 
 module _ (refused : ℕ → Bool) (end : ℕ) where
-  -- what reading from place `at` gives, behind the bytes before it
+  -- what reading from place `at` gives, after the bytes before it
   abbrev pub name_from : ℕ → List ℕ → Outcome (List ℕ)
   name_from at bytes = with_front (take at bytes) (name_at refused end (drop at bytes))
 
 -- ---- the bytes of a run, by their places
 
 module _ (test : ℕ → Bool) where
-  -- what reading at most k more from place `at` gives, behind the bytes before it
+  -- what reading at most k more from place `at` gives, after the bytes before it
   abbrev pub run_from : ℕ → ℕ → List ℕ → Outcome (List ℕ)
   run_from k at bytes = with_front (take at bytes) (run_on test k (drop at bytes))
 
@@ -92,7 +92,7 @@ module _ (test : ℕ → Bool) where
   run_other zero found b rest miss = ap (λ (z : List ℕ). Ok (z, b ∷ rest)) (append-nil found)
   run_other (suc k) found b rest miss = rw miss (ap (λ (z : List ℕ). Ok (z, b ∷ rest)) (append-nil found))
 
-  -- what stands behind, as the code has it
+  -- what stands after it, as the code has it
   abbrev pub run_rest : ℕ → List ℕ → Outcome (List ℕ)
   run_rest at bytes = Ok (take at bytes, take (length bytes - at) (drop at bytes))
 

@@ -1,4 +1,4 @@
--- A reader behind a test that its first byte must not pass keeps the laws.
+-- A reader after a test that its first byte must not pass keeps the laws.
 use Rattle.std.proofs.Common.{◌≡◌, ℕ, ◌≤◌, inl, inr, Bool, false, List, [], ◌∷◌, ◌++◌, length, Ok, Err, Some, refl, sym, subst, ◌∙◌, arith}
 use Rattle.std.proofs.lemmas.List.{append-nil}
 use Rattle.readers.specs.declared.stop.Stop.TheVariants.{Bad, End, Deep}
@@ -19,7 +19,7 @@ unless_form test F = record { print = F.print; depths = F.depths; shaped = λ a.
 
 module _ (n : ℕ) {A : Type 0} (r : Reader A) (F : Form A) (follows : ℕ → Bool) (laws : Laws n r F follows) (test : ℕ → Bool)
     (solid : (a : A) → F.shaped a → 1 ≤ length (F.print a)) (t₀ : A) (shaped₀ : F.shaped t₀) (first₀ : NotFirst test (F.print t₀)) where
-  -- r behind the test
+  -- r after the test
   abbrev its : Reader A
   its = unless test r
 

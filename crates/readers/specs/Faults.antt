@@ -1,5 +1,5 @@
 -- The faults of a text that should spell a value, by the fronts of spellings alone. This project's own.
--- A text has at most one fault at each place, and the first is told. Nothing here says how a text is read.
+-- A text has at most one fault at each place, and the first is reported. Nothing here says how a text is read.
 use Rattle.std.specs.Prelude.{◌≡◌, ℕ, suc, ◌+◌, ◌-◌, ◌<◌, ◌≤◌, List, ◌++◌, length, take, get_or}
 use Rattle.readers.specs.declared.fault.TextFault.{TextFault}
 use Rattle.readers.specs.declared.fault.TextFault.TheVariants.{Byte, End, Deep}

@@ -6,7 +6,7 @@ use Rattle.readers.specs.declared.stop.Stop.TheVariants.{Bad, End, Deep}
 use Rattle.readers.specs.declared.stop.Refusal.{Refusal}
 use Rattle.readers.specs.declared.stop.Refusal.TheVariants as refusal
 
--- a value and the text behind it, or why reading stops
+-- a value and the text after it, or why reading stops
 abbrev pub Outcome : Type 0 → Type 0
 Outcome A = Result (A × List ℕ) Stop
 
@@ -96,6 +96,6 @@ too_deep begins (b ∷ rest) = if begins b then Err (Deep (length (b ∷ rest)))
 abbrev pub with_front : {A : Type 0} → List A → Outcome (List A) → Outcome (List A)
 with_front front read = read >>= λ x. Ok (front ++ x.0, x.1)
 
--- the reader takes all of the text; else the first byte behind is `Bad`
+-- the reader takes all of the text; else the first byte after it is `Bad`
 abbrev pub whole_of : {A : Type 0} → Reader A → List ℕ → Result A Stop
 whole_of r bytes = r bytes >>= λ x. if length x.1 == 0 then Ok x.0 else Err (Bad (length x.1))

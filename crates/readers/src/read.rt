@@ -21,7 +21,7 @@ pub fn bad(bytes: &[u8]) -> Refusal
     Refusal::At(Stop::Bad(bytes.len()))
 }
 
-/// The byte `b`, and what stands behind it. Takes no memory.
+/// The byte `b`, and what stands after it. Takes no memory.
 pub fn byte_at(b: u8, bytes: &[u8]) -> Result<((), &[u8]), Refusal>
     ensures { Gives (λ x. (tt, x.1.now)) result (readers.byte_at b bytes.now) }
 {
@@ -58,7 +58,7 @@ pub(crate) fn digits_on(limit: u32, first: u32, bytes: &[u8]) -> (u32, &[u8])
     (value, rest)
 }
 
-/// A decimal number without a leading zero, at most `limit`, and what stands behind it: a digit that would
+/// A decimal number without a leading zero, at most `limit`, and what stands after it: a digit that would
 /// exceed the limit stands there too. Takes no memory.
 #[tactic(auto, unfolding(crate::specs::Words::number_at))]
 pub fn number_at(limit: u32, bytes: &[u8]) -> Result<(u32, &[u8]), Refusal>
@@ -78,7 +78,7 @@ pub fn number_at(limit: u32, bytes: &[u8]) -> Result<(u32, &[u8]), Refusal>
     }
 }
 
-/// A number and the byte `b` behind it. Takes no memory.
+/// A number and the byte `b` after it. Takes no memory.
 pub fn number_and(limit: u32, b: u8, bytes: &[u8]) -> Result<(u32, &[u8]), Refusal>
     requires { 9 ≤ limit }
     ensures { Gives (λ x. (x.0, x.1.now)) result (readers.closed (words.number_at limit) b bytes.now) }
@@ -88,7 +88,7 @@ pub fn number_and(limit: u32, b: u8, bytes: &[u8]) -> Result<(u32, &[u8]), Refus
     Ok((number, rest))
 }
 
-/// The name up to the byte `end`, and what stands behind that byte. A zero byte is refused, and `barred` too; for
+/// The name up to the byte `end`, and what stands after that byte. A zero byte is refused, and `barred` too; for
 /// no further byte it is 0. Takes no memory.
 #[tactic(auto, unfolding(crate::specs::Words::name_at))]
 pub fn name_at(end: u8, barred: u8, bytes: &[u8]) -> Result<(&[u8], &[u8]), Refusal>
@@ -106,7 +106,7 @@ pub fn name_at(end: u8, barred: u8, bytes: &[u8]) -> Result<(&[u8], &[u8]), Refu
     Err(Refusal::At(Stop::End))
 }
 
-/// A run of 1 to `more + 1` digits, and what stands behind it. Takes no memory.
+/// A run of 1 to `more + 1` digits, and what stands after it. Takes no memory.
 #[tactic(auto, unfolding(crate::specs::Words::run_at, crate::specs::Words::run_on))]
 pub fn digits_at(more: usize, bytes: &[u8]) -> Result<(&[u8], &[u8]), Refusal>
     ensures { Gives (λ x. (x.0.now, x.1.now)) result (words.run_at words.is_digit more bytes.now) }

@@ -1,15 +1,15 @@
 use st_base::Memory;
 use std::alloc::AllocError;
 
-/// Why reading stops. Inside a grammar a place is told by the number of bytes that are left, so that nothing
+/// Why reading stops. Inside a grammar a place is the number of bytes that are left, so that nothing
 /// carries a position along.
 #[derive(Clone, Copy, Debug, Drop, PartialEq, Eq)]
 pub enum Stop {
-    /// The byte is wrong; so many bytes are left, it and those behind it.
+    /// The byte is wrong; so many bytes are left, it and those after it.
     Bad(usize),
     /// The text ends too early.
     End,
-    /// What begins with the byte would be too deep; so many bytes are left, it and those behind it.
+    /// What begins with the byte would be too deep; so many bytes are left, it and those after it.
     Deep(usize),
 }
 

@@ -5,6 +5,7 @@ use Rattle.st_base.specs.Faults.{Check, check, checked}
 use Rattle.st_base.specs.Number.{number_at, bytes_of}
 use Rattle.st_base.specs.declared.fault.Fault.{Fault}
 use Rattle.st_base.specs.declared.fault.TheConstants.{LENGTH8, FLAG, SEGMENT}
+use Rattle.nlist_codec.specs.declared.kinds.TheConstants.{ABSOLUTE_SEGMENT, TEXT_SEGMENT, DATA_SEGMENT, BSS_SEGMENT}
 use Rattle.reloc.specs.declared.column.Column.{Column}
 use Rattle.reloc.specs.declared.reloc.Reloc.{Reloc}
 
@@ -86,9 +87,9 @@ reloc_bytes big r = bytes_of big 4 r.address ++ (bytes_of big 3 r.symbol ++ byte
 
 -- ---- which relocations and bytes are lawful
 
--- N_ABS, N_TEXT, N_DATA or N_BSS
+-- the number of a segment: N_ABS, N_TEXT, N_DATA or N_BSS
 abbrev pub is_segment : ℕ → Bool
-is_segment symbol = symbol == 2 || symbol == 4 || symbol == 6 || symbol == 8
+is_segment symbol = symbol == ABSOLUTE_SEGMENT || symbol == TEXT_SEGMENT || symbol == DATA_SEGMENT || symbol == BSS_SEGMENT
 
 -- a relocation that can be written and read again
 pub record RelocFits (r : Reloc) : Type 0 where

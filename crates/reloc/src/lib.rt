@@ -6,11 +6,13 @@
 
 mod column;
 mod field;
+mod laws;
 mod read;
 mod reloc;
 mod write;
 
 pub use field::apply;
+pub use laws::limits_are;
 pub use read::read_reloc;
 pub use reloc::Reloc;
 pub use write::{reloc_laws, write_reloc};

@@ -4,6 +4,7 @@ ghost use Rattle.reloc.specs.Relocs.{Spells, HasLength};
 
 use crate::column::{Column, flag_column};
 use crate::reloc::{ADDRESS, FLAGS, Reloc, SYMBOL};
+use nlist_codec::{ABSOLUTE_SEGMENT, BSS_SEGMENT, DATA_SEGMENT, TEXT_SEGMENT};
 use st_base::{FLAG, Fault, LENGTH8, Layout, RELOC_SIZE, SEGMENT};
 
 fn has_flag(flags: u8, mask: u8) -> bool
@@ -32,7 +33,10 @@ fn has_other_flags(column: &Column, flags: u8) -> bool
 fn is_segment(symbol: u32) -> bool
     ensures { result ≡ spec.is_segment symbol }
 {
-    symbol == 2 || symbol == 4 || symbol == 6 || symbol == 8
+    symbol == u32::from(ABSOLUTE_SEGMENT)
+        || symbol == u32::from(TEXT_SEGMENT)
+        || symbol == u32::from(DATA_SEGMENT)
+        || symbol == u32::from(BSS_SEGMENT)
 }
 
 fn read_fields<const BIG: bool>(bytes: &[u8; RELOC_SIZE], column: &Column, flags: u8) -> Reloc

@@ -10,7 +10,8 @@ pub const FLAGS: usize = 7;
 pub struct Reloc {
     /// Where the field begins, as an offset in its segment.
     pub address: u32,
-    /// The number of an entry where `external` is set, else 2, 4, 6 or 8 for N_ABS, N_TEXT, N_DATA or N_BSS.
+    /// The number of an entry where `external` is set, else that of a segment: `ABSOLUTE_SEGMENT`,
+    /// `TEXT_SEGMENT`, `DATA_SEGMENT` or `BSS_SEGMENT`.
     pub symbol: u32,
     /// The field counts from the place of its segment.
     pub pcrel: bool,

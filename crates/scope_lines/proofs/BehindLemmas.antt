@@ -1,4 +1,4 @@
--- What stands behind the items of a list: reading an N_LBRAC takes the value of its N_RBRAC from the stack.
+-- What stands after the items of a list: reading an N_LBRAC takes the value of its N_RBRAC from the stack.
 use Rattle.std.proofs.Common.{◌≡◌, ℕ, List, [], ◌∷◌, ◌++◌, length, reverse, Bool, true, Option, Some, None, refl, sym, ap, ◌∙◌, arith, subst, length-append}
 use Rattle.std.specs.Prelude.{slice_get, MatchOption}
 use Rattle.std.specs.Global.{Vec}

@@ -217,7 +217,7 @@ ends_from low high behind ends = pick (end_value (Opens low) behind) (end_is low
     pick None never = absurd (never ends.0 ends.1)
     pick (Some value) other = ap Some (same_end (Opens low ∷ behind) value high other ends)
 
--- what a block is by the items before its N_LBRAC and those behind it
+-- what a block is by the items before its N_LBRAC and those after it
 record Found (start f address : ℕ) (before : List Role) (x : Role) (behind : List Role) (block : Block) : Type 0 where
   low : ℕ
   high : ℕ
@@ -253,28 +253,38 @@ module _ (start f address : ℕ) (before behind : List Role) (block : Block) whe
       (subst (λ (o : Option ℕ). Contains (block_at start address low o (waiting before)) block) (sym closed)
       (subst (λ (z : Block). Contains (cond (is_in_block address z) (z ∷ []) []) block) is (out_cond (is_in_block address block) block holds_it)))
 
-blocks_to : (start f address : ℕ) (items : List Role) (block : Block) → Contains (blocks_of start (Some f) address items) block → IsBlock start items f address block
-blocks_to start f address items block c =
-    let g : Given (blocks_at start (Some f) address) [] items block = each_gives (blocks_at start (Some f) address) [] items block c in
-    let found : Found start f address (take g.0 items) g.1 (drop (suc g.0) items) block = block_to start f address (take g.0 items) (drop (suc g.0) items) block g.1 g.3 in
-    let there : slice_get items g.0 ≡ Some (Opens found.low) = g.2 ∙ ap Some found.opens in
-    record {
-      place = g.0;
-      low = found.low;
-      high = found.high;
-      there = there;
-      last = is_in_last f (take g.0 items) found.inside;
-      closed = subst (λ (z : List Role). EndsWith z found.high) (sym (drop_at items g.0 (Opens found.low) there)) (ends_to found.low found.high (drop (suc g.0) items) found.closed);
-      is = found.is;
-      holds_it = found.holds_it;
-    }
+module _ (start f address : ℕ) (items : List Role) (place : ℕ) (block : Block) where
+  -- what the item at a place gives is its block
+  pub given_is_block : (x : Role) → slice_get items place ≡ Some x → Contains (blocks_at start (Some f) address (take place items) x (drop (suc place) items)) block
+      → IsBlock start items f address place block
+  given_is_block x at c =
+      let found : Found start f address (take place items) x (drop (suc place) items) block = block_to start f address (take place items) (drop (suc place) items) block x c in
+      let there : slice_get items place ≡ Some (Opens found.low) = at ∙ ap Some found.opens in
+      record {
+        low = found.low;
+        high = found.high;
+        there = there;
+        last = is_in_last f (take place items) found.inside;
+        closed = subst (λ (z : List Role). EndsWith z found.high) (sym (drop_at items place (Opens found.low) there)) (ends_to found.low found.high (drop (suc place) items) found.closed);
+        is = found.is;
+        holds_it = found.holds_it;
+      }
 
-blocks_from : (start f address : ℕ) (items : List Role) (block : Block) → IsBlock start items f address block → Contains (blocks_of start (Some f) address items) block
-blocks_from start f address items block b =
-    each_takes (blocks_at start (Some f) address) [] items block b.place (Opens b.low) b.there
-    (block_from start f address (take b.place items) (drop (suc b.place) items) block b.low b.high (last_is_in f (take b.place items) b.last)
-    (ends_from b.low b.high (drop (suc b.place) items) (subst (λ (z : List Role). EndsWith z b.high) (drop_at items b.place (Opens b.low) b.there) b.closed))
-    b.is b.holds_it)
+  pub block_is_given : (b : IsBlock start items f address place block) → Contains (blocks_at start (Some f) address (take place items) (Opens b.low) (drop (suc place) items)) block
+  block_is_given b =
+      block_from start f address (take place items) (drop (suc place) items) block b.low b.high (last_is_in f (take place items) b.last)
+      (ends_from b.low b.high (drop (suc place) items) (subst (λ (z : List Role). EndsWith z b.high) (drop_at items place (Opens b.low) b.there) b.closed))
+      b.is b.holds_it
 
-pub block_is : (start f address : ℕ) (items : List Role) (block : Block) → Contains (blocks_of start (Some f) address items) block ↔ IsBlock start items f address block
-block_is start f address items block = (blocks_to start f address items block, blocks_from start f address items block)
+module _ (start f address : ℕ) (items : List Role) (block : Block) where
+  blocks_to : Contains (blocks_of start (Some f) address items) block → (place : ℕ) × IsBlock start items f address place block
+  blocks_to c =
+      let g : Given (blocks_at start (Some f) address) [] items block = each_gives (blocks_at start (Some f) address) [] items block c in
+      (g.0, given_is_block start f address items g.0 block g.1 g.2 g.3)
+
+  blocks_from : (place : ℕ) × IsBlock start items f address place block → Contains (blocks_of start (Some f) address items) block
+  blocks_from p =
+      each_takes (blocks_at start (Some f) address) [] items block p.0 (Opens p.1.low) p.1.there (block_is_given start f address items p.0 block p.1)
+
+  pub block_is : Contains (blocks_of start (Some f) address items) block ↔ ((place : ℕ) × IsBlock start items f address place block)
+  block_is = (blocks_to, blocks_from)

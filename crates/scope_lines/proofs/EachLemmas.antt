@@ -1,4 +1,4 @@
--- What is said of each item with the items before and behind it: one item further, and with one item more at the end.
+-- What is said of each item with the items before and after it: one item further, and with one item more at the end.
 use Rattle.std.proofs.Common.{◌≡◌, ℕ, List, [], ◌∷◌, ◌++◌, length, Bool, true, false, cond, Some, None, refl, sym, ap, ◌∙◌, append_assoc, append-nil}
 use Rattle.std.specs.Prelude.{◌&&◌, is_none}
 use Rattle.std.specs.List.{find}
@@ -59,7 +59,7 @@ never : (b : Bool) (at : List ℕ) → cond (b && false) at [] ≡ []
 never true at = refl
 never false at = refl
 
--- behind an item that decides nothing waits
+-- after an item that decides nothing waits
 waiting-decided : (xs : List Role) (x : Role) → decides x ≡ true → is_local x ≡ false → waiting (xs ++ x ∷ []) ≡ []
 waiting-decided xs x does idle =
     each-push waits_at [] xs x

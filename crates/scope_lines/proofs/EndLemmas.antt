@@ -1,4 +1,4 @@
--- The N_RBRAC that closes an N_LBRAC is the first behind it that closes nothing there.
+-- The N_RBRAC that closes an N_LBRAC is the first after it that closes nothing there.
 use Rattle.std.proofs.Common.{◌≡◌, ℕ, zero, suc, ◌+◌, ◌≤◌, List, [], ◌∷◌, length, take, Bool, cond, Option, Some, None, refl, sym, ap, ◌∙◌, arith, subst, add-one}
 use Rattle.std.specs.Prelude.{slice_get, option_and_then, MatchOption, count_by}
 use Rattle.std.proofs.lemmas.Bool.{eq-eqb, ne_eqb}

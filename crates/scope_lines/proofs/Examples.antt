@@ -1,6 +1,8 @@
 -- Worked values, by hand: functions and their items, blocks in one another and unclosed, bounds that wrap, equal values, files of lines.
-use Rattle.std.proofs.Common.{◌≡◌, ℕ, List, [], ◌∷◌, true, false, Some, None, refl}
-use Rattle.stab_grammar.specs.declared.tree.Descriptor.TheVariants as descriptor
+use Rattle.std.proofs.Common.{◌≡◌, ◌≤◌, ◌<◌, ℕ, zero, suc, List, [], ◌∷◌, true, false, Some, None, refl, arith}
+use Rattle.std.specs.Prelude.{slice_get}
+use Rattle.std.proofs.lemmas.Option.{none-some}
+use Rattle.stab_symbols.specs.declared.tree.Descriptor.TheVariants as descriptor
 use Rattle.stab_units.specs.declared.unit.Item.{Item}
 use Rattle.stab_units.specs.declared.unit.ItemText.TheVariants as text
 use Rattle.stab_units.specs.declared.unit.Unit.{Unit as OneUnit}
@@ -10,6 +12,7 @@ use Rattle.scope_lines.specs.declared.role.Role.TheVariants.{Function, Opens, Cl
 use Rattle.scope_lines.specs.Blocks.{end_place, end_value}
 use Rattle.scope_lines.specs.Lines.{line_at, addresses}
 use Rattle.scope_lines.specs.Nearest.{nearest}
+use Rattle.scope_lines.specs.Places.{AreInOrder}
 use Rattle.scope_lines.specs.Roles.{symbol_role}
 use Rattle.scope_lines.specs.Scopes.{own_of, blocks_of, statics_of, scope_at}
 
@@ -63,7 +66,7 @@ nested-own = refl
 nested-blocks : blocks_of 0 (Some 0) 5 nested ≡ record { low = 0; high = 12; vars = 1 ∷ [] } ∷ record { low = 4; high = 8; vars = 3 ∷ [] } ∷ []
 nested-blocks = refl
 
--- a local with nothing behind it belongs to the last function
+-- a local with nothing after it belongs to the last function
 nested-second : own_of (Some 10) nested ≡ 11 ∷ []
 nested-second = refl
 
@@ -77,12 +80,41 @@ open_ended-own = refl
 open_ended-blocks : blocks_of 0 (Some 0) 5 open_ended ≡ record { low = 4; high = 8; vars = 3 ∷ [] } ∷ []
 open_ended-blocks = refl
 
--- a block goes on behind the next function; an N_RBRAC with none to close is passed over
+-- a block goes on after the next function; an N_RBRAC with none to close is passed over
 abbrev crossing : List Role
 crossing = Closes 1 ∷ Function 0 ∷ Opens 2 ∷ Function 9 ∷ Closes 6 ∷ []
 
 crossing-blocks : blocks_of 0 (Some 1) 5 crossing ≡ record { low = 2; high = 6; vars = [] } ∷ []
 crossing-blocks = refl
+
+-- things at places in order: a list that holds 4 at place 0 and 9 at place 2
+abbrev some_at : ℕ → ℕ → Type 0
+some_at place thing = slice_get (Some 4 ∷ None ∷ Some 9 ∷ []) place ≡ Some (Some thing)
+
+in_order : AreInOrder some_at 0 (4 ∷ 9 ∷ [])
+in_order = (0, omega arith, refl, λ place thing low high at. absurd (omega (arith, high)), (2, omega arith, refl, one_between, none_after))
+  where
+    one_between : (place thing : ℕ) → 1 ≤ place → place < 2 → some_at place thing → ⊥
+    one_between zero thing low high at = omega (arith, low)
+    one_between (suc zero) thing low high at = absurd cc
+    one_between (suc (suc place)) thing low high at = omega (arith, high)
+
+    none_after : (place thing : ℕ) → 3 ≤ place → some_at place thing → ⊥
+    none_after zero thing low at = omega (arith, low)
+    none_after (suc zero) thing low at = omega (arith, low)
+    none_after (suc (suc zero)) thing low at = omega (arith, low)
+    none_after (suc (suc (suc place))) thing low at = none-some (Some thing) at
+
+-- not the other way round, and none is left out
+swapped : AreInOrder some_at 0 (9 ∷ 4 ∷ []) → ⊥
+swapped (zero, low, at, between, after) = absurd cc
+swapped (suc zero, low, at, between, after) = absurd cc
+swapped (suc (suc zero), low, at, between, after) = between 0 4 (omega arith) (omega arith) refl
+swapped (suc (suc (suc place)), low, at, between, after) = none-some (Some 9) at
+
+left_out : AreInOrder some_at 0 (4 ∷ []) → ⊥
+left_out (zero, low, at, between, after) = after 2 9 (omega arith) refl
+left_out (suc place, low, at, between, after) = between 0 4 (omega arith) (omega arith) refl
 
 -- without a function there are no items and no blocks
 no_function : own_of None nested ≡ []
@@ -133,6 +165,6 @@ scope-end = refl
 addresses-twice : addresses world (98 ∷ []) 2 ≡ record { unit = 0; value = 4 } ∷ record { unit = 0; value = 8 } ∷ []
 addresses-twice = refl
 
--- behind the N_SOL the file is another
+-- after the N_SOL the file is another
 addresses-none : addresses world (97 ∷ []) 2 ≡ []
 addresses-none = refl

@@ -1,4 +1,4 @@
--- What is in the list that items give: some item gives it, by what stands before it and behind it.
+-- What is in the list that items give: some item gives it, by what stands before it and after it.
 use Rattle.std.proofs.Common.{◌≡◌, ℕ, zero, suc, ⊎_elim, List, [], ◌∷◌, ◌++◌, take, drop, Bool, true, false, cond, Some, refl, sym, arith, subst, append_assoc, append-nil}
 use Rattle.std.specs.Prelude.{slice_get, Contains}
 use Rattle.std.proofs.lemmas.Option.{same_Some, none-some}

@@ -18,7 +18,7 @@ use Rattle.scope_lines.specs.Walks.{stepped, next_last, next_waiting, placed_if,
 use Rattle.scope_lines.proofs.PlaceLemmas.{last_place-push, map_take_more, map_drop_more}
 use Rattle.scope_lines.proofs.EachLemmas.{each_step, waiting-push}
 
--- what the walk has behind the items before, with the rest to come
+-- what the walk has after the items before, with the rest to come
 pub record Walking (asked : Asked) (whole before rest : List Role) (found : List Behind) (w : Walk) : Type 0 where
   pub found_are : found ≡ behinds rest
   pub last_is : w.last ≡ last_place is_function before

@@ -1,4 +1,4 @@
--- What stands behind each item of a body, as a walk from the body's end finds it.
+-- What stands after each item of a body, as a walk from the body's end finds it.
 use Rattle.std.specs.Prelude.{◌≡◌, ℕ, List, [], ◌∷◌, ◌++◌, Option, None, reverse}
 use Rattle.scope_lines.specs.declared.role.Role.{Role}
 use Rattle.scope_lines.specs.declared.role.Role.TheVariants.{Opens, Closes}
@@ -12,7 +12,7 @@ abbrev pub end_of : Role → List Role → Option ℕ
 end_of (Opens value) behind = end_value (Opens value) behind
 end_of _ behind = None
 
--- what stands behind an item
+-- what stands after an item
 abbrev pub behind_of : Role → List Role → Behind
 behind_of x behind = record { opens_next = opens_next behind; end = end_of x behind }
 

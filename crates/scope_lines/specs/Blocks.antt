@@ -23,7 +23,7 @@ is_end _ = false
 abbrev pub is_even : List Role → ℕ → Bool
 is_even items place = count_by is_end (take (place + 1) items) == count_by is_begin (take (place + 1) items)
 
--- the first place behind an N_LBRAC up to which there are as many
+-- the first place after an N_LBRAC up to which there are as many
 abbrev pub end_place : Role → List Role → Option ℕ
 end_place opener behind = find (is_even (opener ∷ behind)) (range_with_len 1 (length behind))
 
@@ -50,11 +50,11 @@ abbrev pub is_local : Role → Bool
 is_local Local = true
 is_local _ = false
 
--- the place of an item of that kind, where nothing decides behind it
+-- the place of an item of that kind, where nothing decides after it
 abbrev pub waits_at : List Role → Role → List Role → List ℕ
 waits_at before x between = if is_local x && is_none (find decides between) then length before ∷ [] else []
 
--- the items that belong to the block of an N_LBRAC directly behind these: nothing else decides before it
+-- the items that belong to the block of an N_LBRAC directly after these: nothing else decides before it
 abbrev pub waiting : List Role → List ℕ
 waiting before = each waits_at [] before
 
@@ -83,7 +83,7 @@ block_at start address low (Some high) vars = if is_in_block address (block_of s
 abbrev pub IsEven : List Role → ℕ → Type 0
 IsEven items place = count_by is_end (take (place + 1) items) ≡ count_by is_begin (take (place + 1) items)
 
--- this is the first place behind the first item up to which there are as many
+-- this is the first place after the first item up to which there are as many
 pub record IsFirstEven (items : List Role) (place : ℕ) : Type 0 where
   pub behind : 0 < place
   pub within : place < length items
@@ -98,6 +98,6 @@ EndsWith items value = (place : ℕ) × IsFirstEven items place × (slice_get it
 abbrev pub NeverEnds : List Role → Type 0
 NeverEnds items = (place : ℕ) → IsFirstEven items place → ⊥
 
--- the item at a place waits for an N_LBRAC behind the list
+-- the item at a place waits for an N_LBRAC after the list
 abbrev pub IsWaiting : List Role → ℕ → Type 0
 IsWaiting before place = (slice_get before place ≡ Some Local) × ((other : ℕ) (x : Role) → place < other → slice_get before other ≡ Some x → decides x ≡ false)

@@ -35,7 +35,7 @@ text_of item = bytes_of item.text
 abbrev pub name_or : List ℕ → List Item → Option ℕ → List ℕ
 name_or name items place = option_map_or text_of (option_and_then (slice_get items) place) name
 
--- the file of what stands behind these items: the name of the last N_SOL, else the unit's
+-- the file of what stands after these items: the name of the last N_SOL, else the unit's
 abbrev pub file_name : List ℕ → List Item → List ℕ
 file_name name before = name_or name before (last_place is_source before)
 

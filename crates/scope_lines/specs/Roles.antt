@@ -1,8 +1,8 @@
 -- What an item of a unit's body is to scopes. After "The stabs debug format" on block structure, procedures and variables.
 use Rattle.std.specs.Prelude.{ℕ, Bool, if◌then◌else◌, ◌==◌, List, map}
 use Rattle.stab_codes.specs.declared.code.TheConstants.{N_FUN, N_LBRAC, N_RBRAC}
-use Rattle.stab_grammar.specs.declared.tree.Descriptor.{Descriptor}
-use Rattle.stab_grammar.specs.declared.tree.Descriptor.TheVariants as descriptor
+use Rattle.stab_symbols.specs.declared.tree.Descriptor.{Descriptor}
+use Rattle.stab_symbols.specs.declared.tree.Descriptor.TheVariants as descriptor
 use Rattle.stab_units.specs.declared.unit.Item.{Item}
 use Rattle.stab_units.specs.declared.unit.ItemText.{ItemText}
 use Rattle.stab_units.specs.declared.unit.ItemText.TheVariants as text

@@ -1,6 +1,6 @@
 -- What is visible at an address: the function, its items, its blocks with their items, the items of the unit. After "The stabs debug
 -- format" on block structure, procedures and variables; that an address is in the first unit that holds it is this project's own.
-use Rattle.std.specs.Prelude.{◌≡◌, ◌<◌, ◌≤◌, ◌⊎◌, take, drop, slice_get, ℕ, ◌+◌, List, [], ◌∷◌, length, Bool, true, false, not, ◌&&◌, if◌then◌else◌, nat_lt, nat_le, ◌==◌, Option, Some, option_map}
+use Rattle.std.specs.Prelude.{◌≡◌, ◌<◌, ◌≤◌, ◌⊎◌, take, drop, slice_get, ℕ, ◌+◌, List, [], ◌∷◌, length, Bool, true, false, not, ◌&&◌, if◌then◌else◌, nat_lt, nat_le, ◌==◌, Option, Some, None, option_map}
 use Rattle.std.specs.List.{find, enumerate_from}
 use Rattle.stab_units.specs.declared.unit.Unit.{Unit as OneUnit}
 use Rattle.type_graph.specs.declared.world.World.{World}
@@ -10,7 +10,7 @@ use Rattle.scope_lines.specs.declared.nearest.Sought.TheVariants as sought
 use Rattle.scope_lines.specs.declared.scope.Block.{Block}
 use Rattle.scope_lines.specs.declared.scope.Scope.{Scope}
 use Rattle.scope_lines.specs.Roles.{roles}
-use Rattle.scope_lines.specs.Blocks.{decides, end_value, waiting, block_at, block_of, is_in_block, EndsWith}
+use Rattle.scope_lines.specs.Blocks.{is_begin, decides, end_value, waiting, block_at, block_of, is_in_block, EndsWith}
 use Rattle.scope_lines.specs.Places.{each, last_place, IsLast}
 use Rattle.scope_lines.specs.Nearest.{nearest_item}
 
@@ -46,10 +46,10 @@ is_in function before = same_place function (last_place is_function before)
 
 -- ---- the items of a function
 
--- an N_LBRAC
+-- there is an item, and it is an N_LBRAC
 abbrev pub is_opening : Option Role → Bool
-is_opening (Some (Opens value)) = true
-is_opening _ = false
+is_opening None = false
+is_opening (Some x) = is_begin x
 
 -- the first N_LBRAC, N_RBRAC or function is an N_LBRAC
 abbrev pub opens_next : List Role → Bool
@@ -141,9 +141,8 @@ pub record IsOwn (items : List Role) (function place : ℕ) : Type 0 where
   pub last : IsLast is_function (take place items) function
   pub kind : (role ≡ Parameter) ⊎ ((role ≡ Local) × (OpensNext (drop (place + 1) items) → ⊥))
 
--- the block is that of an N_LBRAC whose last function before it is the one at this place
-pub record IsBlock (start : ℕ) (items : List Role) (function address : ℕ) (block : Block) : Type 0 where
-  pub place : ℕ
+-- the block is that of the N_LBRAC at a place: the last function before it is this one, it is closed, and the block holds the address
+pub record IsBlock (start : ℕ) (items : List Role) (function address place : ℕ) (block : Block) : Type 0 where
   pub low : ℕ
   pub high : ℕ
   pub there : slice_get items place ≡ Some (Opens low)

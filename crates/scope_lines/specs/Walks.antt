@@ -26,11 +26,11 @@ better address found at (Some v) = if nat_lt address v then found else better_th
 
 -- ---- the file of a line
 
--- whether the file is the one sought, behind one item more
+-- whether the file is the one sought, after one item more
 abbrev pub next_here : List ℕ → Item → Bool → Bool
 next_here file item here = if is_source item then bytes_eq (text_of item) file else here
 
--- ---- a scope, with what stands behind each item at hand
+-- ---- a scope, with what stands after each item at hand
 
 -- the last function, one item on
 abbrev pub next_last : Role → ℕ → Option ℕ → Option ℕ

@@ -26,7 +26,7 @@ fn counts(item: &Item, line: u16, here: bool) -> bool
     item.kind == N_SLINE && item.desc == line && here
 }
 
-/// Whether the file is the one sought, behind this item.
+/// Whether the file is the one sought, after this item.
 fn next_here(item: &Item, file: &[u8], here: bool) -> bool
     ensures { result ≡ next_here file.now item.now here }
 {

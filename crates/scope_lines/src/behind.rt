@@ -1,4 +1,4 @@
-//! What stands behind each item of a body, found in one walk from its end: what an item is told by lies behind it.
+//! What stands after each item of a body, found in one walk from its end: what an item is depends on what lies after it.
 
 ghost use Rattle.std.specs.Prelude.{◌≡◌, ◌∷◌, ◌++◌, [], List, IfOk, MatchOption};
 ghost use Rattle.scope_lines.specs.declared.role.Role.{Role as SomeRole};
@@ -10,10 +10,10 @@ use st_base::Memory;
 use stab_units::Item;
 use std::alloc::Global;
 
-/// What stands behind an item.
+/// What stands after an item.
 #[derive(Clone, Copy, Debug, Drop)]
 pub struct Behind {
-    /// The first N_LBRAC, N_RBRAC or function behind it is an N_LBRAC.
+    /// The first N_LBRAC, N_RBRAC or function after it is an N_LBRAC.
     pub opens_next: bool,
     /// Of an N_LBRAC the value of the N_RBRAC that closes it.
     pub end: Option<u32>,
@@ -46,7 +46,7 @@ impl Reading {
         }
     }
 
-    /// Reads one more item, and tells what stands behind it.
+    /// Reads one more item, and answers what stands after it.
     fn read(&mut self, role: Role) -> Result<Behind, Memory>
         ensures { IfOk result (λ b. (xs : List SomeRole) → spec.Reads xs self.old → (b ≡ spec.behind_of role xs) × spec.Reads (role ∷ xs) self.new) }
     {
@@ -82,7 +82,7 @@ impl Reading {
     }
 }
 
-/// What stands behind each item, the last item first.
+/// What stands after each item, the last item first.
 pub(crate) fn behinds(alloc: Global, body: &[Item]) -> Result<Vec<Behind>, Memory>
     ensures { IfOk result (λ found. found.items ≡ spec.behinds (roles body.now)) }
 {

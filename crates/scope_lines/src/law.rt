@@ -3,7 +3,7 @@
 ghost use Rattle.std.specs.Prelude.{◌≡◌, ℕ, List, Option, ◌∷◌, ◌↔◌, Some, None, [], Contains, MatchOption, slice_get};
 ghost use Rattle.scope_lines.specs.Blocks.{end_value, waiting, EndsWith, NeverEnds, IsWaiting};
 ghost use Rattle.scope_lines.specs.Nearest.{nearest, IsNearest, AllAbove};
-ghost use Rattle.scope_lines.specs.Places.{last_place, Ascends, IsLast, NonePass};
+ghost use Rattle.scope_lines.specs.Places.{last_place, AreInOrder, Ascends, IsLast, NonePass};
 ghost use Rattle.scope_lines.specs.Lines.{is_source, addresses, IsAddress};
 ghost use Rattle.scope_lines.specs.Scopes.{own_of, blocks_of, statics_of, unit_at, IsOwn, IsBlock, IsUnitOf, NoUnit};
 ghost use Rattle.scope_lines.specs.declared.role.Role.{Role as SomeRole};
@@ -13,16 +13,17 @@ ghost use Rattle.scope_lines.specs.declared.scope.Block.{Block as SomeBlock};
 ghost use Rattle.stab_units.specs.declared.unit.Item.{Item as SomeItem};
 ghost use Rattle.type_graph.specs.declared.world.World.{World as SomeWorld};
 
-/// The unit of an address is the first that holds it. An N_LBRAC is closed at the first place behind it up to which as many are closed as
-/// opened. An item belongs to a function, to the block of an N_LBRAC or to the unit exactly where the rules say so by places. A block
-/// of the scope is the block of an N_LBRAC of the function that holds the address. Without a function there are no items of one and no blocks.
-/// Items are told in ascending order.
+/// The unit of an address is the first that holds it. An N_LBRAC is closed at the first place after it up to which as many are closed as
+/// opened. An item belongs to a function, to the block of an N_LBRAC or to the unit exactly where the rules say so by places, and items
+/// are answered in ascending order. The blocks of a scope are the blocks of those N_LBRAC of the function that hold the address, each
+/// once, in the order of the body. Without a function there are no items of one and no blocks.
 pub fn scope_laws()
     ensures unit { (world : SomeWorld) (address : ℕ) → MatchOption (unit_at world address) (NoUnit world address) (λ p. IsUnitOf world address p.0 p.1) }
     ensures closed { (value : ℕ) (behind : List SomeRole) → MatchOption (end_value (role.Opens value) behind) (NeverEnds (role.Opens value ∷ behind)) (EndsWith (role.Opens value ∷ behind)) }
     ensures own { (function place : ℕ) (items : List SomeRole) → Contains (own_of (Some function) items) place ↔ IsOwn items function place }
     ensures vars { (before : List SomeRole) (place : ℕ) → Contains (waiting before) place ↔ IsWaiting before place }
-    ensures blocks { (start function address : ℕ) (items : List SomeRole) (block : SomeBlock) → Contains (blocks_of start (Some function) address items) block ↔ IsBlock start items function address block }
+    ensures blocks { (start function address : ℕ) (items : List SomeRole) (block : SomeBlock) → Contains (blocks_of start (Some function) address items) block ↔ ((place : ℕ) × IsBlock start items function address place block) }
+    ensures blocks_order { (start function address : ℕ) (items : List SomeRole) → AreInOrder (IsBlock start items function address) 0 (blocks_of start (Some function) address items) }
     ensures statics { (items : List SomeRole) (place : ℕ) → Contains (statics_of items) place ↔ (slice_get items place ≡ Some role.Static) }
     ensures alone { (start address : ℕ) (items : List SomeRole) → (own_of None items ≡ []) × (blocks_of start None address items ≡ []) }
     ensures order { (function : Option ℕ) (items : List SomeRole) → Ascends 0 (own_of function items) × Ascends 0 (waiting items) × Ascends 0 (statics_of items) }

@@ -32,7 +32,7 @@ fn value_of(item: &Item, sought: Sought) -> Option<u32>
     }
 }
 
-/// The nearest so far, with its value, and then one item more, at a place behind it.
+/// The nearest so far, with its value, and then one item more, at a place after it.
 fn better(
     found: Option<(usize, u32)>,
     at: usize,

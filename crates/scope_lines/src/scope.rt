@@ -75,7 +75,7 @@ fn scope_in(alloc: Global, number: u32, unit: &Unit, address: u32) -> Result<Sco
 /// and the greatest value not above it, the last of equals.
 ///
 /// Parameters (`p`, `P`, `a`, `v`) belong to the last function before them. An item with no descriptor, `r` or `V` belongs to the block
-/// of the first N_LBRAC behind it, unless an N_RBRAC or a function stands before that, or nothing of the three follows: then it belongs
+/// of the first N_LBRAC after it, unless an N_RBRAC or a function stands before that, or nothing of the three follows: then it belongs
 /// to the last function before it. A block is an N_LBRAC with the N_RBRAC that closes it; its bounds are the unit's start plus their values,
 /// modulo 2^32, and it belongs to the last function before its N_LBRAC. Items with `G` or `S` belong to the unit. `None` exactly where no
 /// unit holds the address. After "The stabs debug format". Three walks over the unit's body, one after another; the memory taken is

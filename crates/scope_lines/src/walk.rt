@@ -1,4 +1,4 @@
-//! The walk over a body from its front, with what stands behind each item at hand.
+//! The walk over a body from its front, with what stands after each item at hand.
 
 ghost use Rattle.std.specs.Prelude.{◌≡◌, ◌≢◌, ◌∷◌, ◌++◌, [], IfOk, OnOk};
 ghost use Rattle.scope_lines.specs.Blocks as blocks;
@@ -136,7 +136,7 @@ fn step(
     Ok(())
 }
 
-/// Takes what stands behind the next item.
+/// Takes what stands after the next item.
 fn taken(found: &mut Vec<Behind>) -> Behind
     requires { found.old.items ≢ [] }
     ensures { found.old.items ≡ found.new.items ++ result ∷ [] }

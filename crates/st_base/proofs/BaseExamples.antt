@@ -1,8 +1,10 @@
--- Worked values of the shown form, of checks in order, and of words and kinds, by hand.
+-- Worked values of the shown form, of digits, multiples of four and first uses, of checks in order, and of words and kinds, by hand.
 use Rattle.std.proofs.Common.{◌≡◌, ℕ, [], ◌∷◌, refl}
-use Rattle.std.specs.Prelude.{codes, Ok, Err, true, false, Some, None}
-use Rattle.st_base.specs.Numerals.{hex2, hex4, hex8}
+use Rattle.std.specs.Prelude.{codes, Ok, Err, true, false, Some, None, ◌==◌}
+use Rattle.st_base.specs.Numerals.{digit_value, hex2, hex4, hex8}
 use Rattle.st_base.specs.Shown.{shown}
+use Rattle.st_base.specs.Multiples.{aligned}
+use Rattle.st_base.specs.FirstUses.{first_uses}
 use Rattle.st_base.specs.Number.{first_word}
 use Rattle.st_base.specs.Stabs.{is_stab}
 use Rattle.st_base.specs.Faults.{fault_at, check, checked}
@@ -44,9 +46,35 @@ eight_digits : hex8 0x12a0f ≡ codes "00012a0f"
 unfolding hex8
 eight_digits = refl
 
+-- a digit of either case has its value, and no other byte has one
+digit : digit_value 57 ≡ Some 9
+digit = refl
+
+lower : digit_value 97 ≡ Some 10
+lower = refl
+
+upper : digit_value 70 ≡ Some 15
+upper = refl
+
+no_digit : digit_value 103 ≡ None
+no_digit = refl
+
+-- ---- multiples of four
+
+already : aligned 8 ≡ 8
+already = refl
+
+next : aligned 9 ≡ 12
+next = refl
+
+-- ---- first uses
+
+once : first_uses (λ a b. a == b) (7 ∷ 3 ∷ 7 ∷ 5 ∷ 3 ∷ []) ≡ 7 ∷ 3 ∷ 5 ∷ []
+once = refl
+
 -- ---- checks in order
 
--- the first that does not hold is told, and where all hold the value is
+-- the first that does not hold is the fault, and where all hold there is the value
 second : checked {A = ℕ} (check true 1 0 ∷ check false 2 7 ∷ check false 3 9 ∷ []) 5 ≡ Err (fault_at 2 7)
 second = refl
 

@@ -25,7 +25,7 @@ IsBytes-drop zero xs bytes = bytes
 IsBytes-drop (suc n) [] bytes = tt
 IsBytes-drop (suc n) (b ∷ xs) bytes = IsBytes-drop n xs bytes.1
 
--- bytes behind bytes
+-- bytes after bytes
 pub IsBytes-append : (xs ys : List ℕ) → IsBytes xs → IsBytes ys → IsBytes (xs ++ ys)
 IsBytes-append [] ys front behind = behind
 IsBytes-append (b ∷ xs) ys front behind = (front.0, IsBytes-append xs ys front.1 behind)
@@ -80,7 +80,7 @@ byte_at-pow (suc k) value = refl
 pow256_pos : (n : ℕ) → zero < 256 ^ n
 pow256_pos n = let h = one-le-pow n 256 (omega arith) in omega arith
 
--- the most significant first, behind a number that stands before them
+-- the most significant first, after a number that stands before them
 big_after-bytes_from : (front before size value : ℕ) → big_after front (bytes_from true before size value) ≡ front * 256 ^ size + value % 256 ^ size
 big_after-bytes_from front before zero value = omega arith
 big_after-bytes_from front before (suc size) value =
@@ -111,7 +111,7 @@ number-bytes_of false size value fits = little-bytes_from 0 size value ∙ ap (�
 
 -- ---- the bytes of a number read
 
--- a number of n bytes behind a front is below the next front
+-- a number of n bytes after a front is below the next front
 big_after-lt : (front : ℕ) (xs : List ℕ) → IsBytes xs → big_after front xs < (front + 1) * 256 ^ length xs
 big_after-lt front [] bytes = omega arith
 big_after-lt front (b ∷ xs) bytes =

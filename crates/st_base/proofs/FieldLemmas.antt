@@ -10,7 +10,7 @@ use Rattle.st_base.proofs.BytesLemmas.{length-bytes_of, number-bytes_of, bytes_o
 length-field : (bytes : List ℕ) (at size : ℕ) → at + size ≤ length bytes → length (take size (drop at bytes)) ≡ size
 length-field bytes at size within = length-take-le size (drop at bytes) (let e = length-drop at bytes in omega (arith, e, within))
 
--- a field and what lies behind it are what lies from its place on
+-- a field and what lies after it are what lies from its place on
 field-behind : (bytes : List ℕ) (at size : ℕ) → take size (drop at bytes) ++ drop (at + size) bytes ≡ drop at bytes
 field-behind bytes at size = ap (λ (x : List ℕ). take size (drop at bytes) ++ x) (sym (drop-drop size at bytes)) ∙ take-append-drop size (drop at bytes)
 
@@ -30,7 +30,7 @@ bytes_of-number_at big bytes at size are_bytes within =
     ap (λ (n : ℕ). bytes_of big n (number big field)) (sym (length-field bytes at size within))
     ∙ bytes_of-number big field (IsBytes-take size (drop at bytes) (IsBytes-drop at bytes are_bytes))
 
--- a field that was read, and behind it what the record has behind that field, are what the record has from the field on
+-- a field that was read, and after it what the record has after that field, are what the record has from the field on
 pub field_then : (big : Bool) (bytes : List ℕ) (at size : ℕ) (rest : List ℕ) → IsBytes bytes → at + size ≤ length bytes → rest ≡ drop (at + size) bytes → bytes_of big size (number_at big bytes at size) ++ rest ≡ drop at bytes
 field_then big bytes at size rest are_bytes within behind =
     ap (λ (x : List ℕ). x ++ rest) (bytes_of-number_at big bytes at size are_bytes within)
@@ -67,13 +67,13 @@ number_at-before big bytes at size value other other_size within apart =
     ∙ ap (λ (x : List ℕ). number big (take other_size x)) cut
     ∙ ap (number big) (take-take other_size (at - other) (drop other bytes) fits)
 
--- what lies behind the field that is set stays
+-- what lies after the field that is set stays
 pub drop-with_number_at : (big : Bool) (bytes : List ℕ) (at size value place : ℕ) → at ≤ length bytes → at + size ≤ place → drop place (with_number_at big bytes at size value) ≡ drop place bytes
 drop-with_number_at big bytes at size value place within apart =
     ap (λ (x : List ℕ). drop place (take at bytes ++ (bytes_of big size value ++ x))) (sym (drop-drop size at bytes))
     ∙ drop-put_mid at size bytes (bytes_of big size value) place apart within (length-bytes_of big size value)
 
--- a field that lies behind the one that is set stays
+-- a field that lies after the one that is set stays
 pub number_at-behind : (big : Bool) (bytes : List ℕ) (at size value other other_size : ℕ) → at ≤ length bytes → at + size ≤ other → number_at big (with_number_at big bytes at size value) other other_size ≡ number_at big bytes other other_size
 number_at-behind big bytes at size value other other_size within apart =
     ap (λ (x : List ℕ). number big (take other_size x)) (drop-with_number_at big bytes at size value other within apart)

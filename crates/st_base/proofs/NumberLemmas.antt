@@ -63,7 +63,7 @@ little_one (a ∷ x) (b ∷ y) p q l e =
     let rest : x ≡ y = little_one x y p.1 q.1 (omega arith) (omega (arith, p.0, q.0)) in
     cc
 
--- one spelling of a number with its most significant byte first, behind what stands before it
+-- one spelling of a number with its most significant byte first, after what stands before it
 big_one : (v w : ℕ) (x y : List ℕ) → IsBytes x → IsBytes y → length x ≡ length y → big_after v x ≡ big_after w y → (v ≡ w) × (x ≡ y)
 big_one v w [] [] p q l e = (e, refl)
 big_one v w [] (b ∷ y) p q l e = absurd (omega arith)

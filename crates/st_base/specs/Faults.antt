@@ -2,7 +2,7 @@
 use Rattle.std.specs.Prelude.{ℕ, Bool, if◌then◌else◌, List, [], ◌∷◌, Option, Some, None, Result, Ok, Err}
 use Rattle.st_base.specs.declared.fault.Fault.{Fault}
 
--- the fault with this number and place that needs no more to tell where it is
+-- the fault with this number and place whose within is 0
 abbrev pub fault_at : ℕ → ℕ → Fault
 fault_at number place = record { number = number; place = place; within = 0 }
 

@@ -1,6 +1,8 @@
 pub mod ByteOrder
 pub mod Faults
+pub mod FirstUses
 pub mod Lending
+pub mod Multiples
 pub mod Number
 pub mod Numerals
 pub mod Shown

@@ -2,7 +2,7 @@
 use Rattle.std.specs.Prelude.{ℕ, zero, suc, ◌+◌, ◌*◌, ◌<◌, nat_le, Bool, true, false, if◌then◌else◌, List, [], ◌∷◌, ◌++◌, length, take, drop, Option, Some, None}
 use Rattle.std.specs.Int.{byte_at}
 
--- the most significant byte first, behind a number that stands before them
+-- the most significant byte first, after a number that stands before them
 abbrev pub big_after : ℕ → List ℕ → ℕ
 big_after before [] = before
 big_after before (b ∷ bytes) = big_after (256 * before + b) bytes
@@ -31,7 +31,7 @@ IsBytes [] = Unit {0}
 IsBytes (b ∷ bytes) = (b < 256) × IsBytes bytes
 
 -- the bytes of a number with `before` of its bytes before them and `behind` bytes to come: byte k of the number is
--- worth 256 ^ k, and as many bytes of less worth stand behind it where `big` holds, else before it
+-- worth 256 ^ k, and as many bytes of less worth stand after it where `big` holds, else before it
 abbrev pub bytes_from : Bool → ℕ → ℕ → ℕ → List ℕ
 bytes_from big before zero value = []
 bytes_from big before (suc behind) value =

@@ -1,6 +1,15 @@
--- Numbers as hexadecimal digits, the most significant first, in lower case. This is this project's own.
-use Rattle.std.specs.Prelude.{ℕ, ◌/◌, ◌%◌, List, [], ◌∷◌, ◌++◌}
+-- Hexadecimal digits: the value of one of either case, and numbers as digits in lower case, the most significant first. That numbers
+-- are printed so is this project's own.
+use Rattle.std.specs.Prelude.{ℕ, ◌+◌, ◌-◌, ◌/◌, ◌%◌, nat_le, ◌&&◌, if◌then◌else◌, List, [], ◌∷◌, Option, Some, None}
 use Rattle.st_base.specs.Shown.{hex_digit}
+
+-- the value of a hexadecimal digit of either case; none for every other byte
+abbrev pub digit_value : ℕ → Option ℕ
+digit_value b =
+    if nat_le 48 b && nat_le b 57 then Some (b - 48)
+    else if nat_le 97 b && nat_le b 102 then Some (b - 97 + 10)
+    else if nat_le 65 b && nat_le b 70 then Some (b - 65 + 10)
+    else None
 
 -- the digit of a number that is worth so much, a power of 16
 abbrev pub digit_worth : ℕ → ℕ → ℕ

@@ -3,11 +3,12 @@ ghost use Rattle.st_base.specs.Faults.{fault_at};
 
 use std::alloc::{AllocError, AllocFailed};
 
-// The numbers of all faults of these tools, also of those to come, so that one number never has two meanings. Each line gives the cause, then the place and within of the fault; where within is not told it is 0.
+// The numbers of all faults of these tools, also of those to come, so that one number never has two meanings. Each line gives the
+// cause, then the place and within of the fault; where no within is given it is 0.
 
 /// In neither byte order is the low half of the file's first word the magic 0x0107. Place 0.
 pub const MAGIC: u16 = 1;
-/// In both byte orders the low half of the first word is the magic, so that the order can't be told. Place 0.
+/// In both byte orders the low half of the first word is the magic, so that the order is not known. Place 0.
 pub const MACHINE: u16 = 2;
 /// The header's bytes of entries are no multiple of an entry's 12. Place 16.
 pub const SYMBOL_BYTES: u16 = 3;
@@ -40,7 +41,7 @@ pub const OUTSIDE: u16 = 23;
 /// The external symbol of a relocation is no entry, a stab, or of kind 0. The place is the object's number, within the
 /// relocation's, text first.
 pub const SYMBOL: u16 = 24;
-/// The sum of a relocation doesn't fit its field. Place and within are as for `OUTSIDE`.
+/// The sum of a relocation does not fit its field. Place and within are as for `OUTSIDE`.
 pub const OVERFLOW: u16 = 25;
 /// The kind of an entry is not accepted. The place is the entry's number.
 pub const KIND: u16 = 30;
@@ -68,9 +69,9 @@ pub const EXCLUDED: u16 = 55;
 pub const HEADERS: u16 = 57;
 /// A stab string that is continued is longer than 1,048,576 bytes. The place is the number of its first entry.
 pub const LONG: u16 = 58;
-/// A query is none. The place is that of the first word that is wrong, missing or too many.
+/// The words of a query do not parse. The place is that of the first word that is wrong, missing or too many.
 pub const QUERY: u16 = 60;
-/// A line of an assembly source is of no form. The place is the line's number.
+/// A line of an assembly source does not parse. The place is the line's number.
 pub const LINE_SYNTAX: u16 = 70;
 /// A value of an assembly source is out of its range. The place is the line's number.
 pub const LINE_RANGE: u16 = 71;
@@ -80,7 +81,7 @@ pub const LINE_UNDEFINED: u16 = 72;
 pub const LINE_TWICE: u16 = 73;
 /// A value of an assembly source mixes what does not go together. The place is the line's number.
 pub const LINE_MIXED: u16 = 74;
-/// A C source goes on as no declaration does. The place is the line's number, within the file's.
+/// A C source does not parse. The place is the line's number, within the file's.
 pub const C_SYNTAX: u16 = 80;
 /// A name of a C source is not declared. Place and within are as for `C_SYNTAX`.
 pub const C_UNKNOWN: u16 = 81;
@@ -126,7 +127,7 @@ impl<T: Drop> From<AllocFailed<T>> for Memory {
 }
 
 /// What is wrong with an input: the fault's number, its place counted from 0, and where it lies within
-/// that place, 0 where the number needs no more.
+/// that place, which is 0 where a place says all.
 #[derive(Clone, Copy, Debug, Drop, PartialEq, Eq)]
 pub struct Fault {
     pub number: u16,
@@ -135,7 +136,7 @@ pub struct Fault {
 }
 
 impl Fault {
-    /// The fault with this number and place that needs no more to tell where it is. Takes no memory.
+    /// The fault with this number and place whose within is 0. Takes no memory.
     pub fn at(number: u16, place: u64) -> Fault
         ensures { result ≡ fault_at number place }
     {

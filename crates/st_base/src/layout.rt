@@ -130,7 +130,7 @@ pub fn first_word(order: Order, bytes: &[u8]) -> Option<u32>
     })
 }
 
-/// Sets the first four bytes to a number in this byte order; the bytes behind them stay. Takes no memory.
+/// Sets the first four bytes to a number in this byte order; the bytes after them stay. Takes no memory.
 pub fn set_first_word(order: Order, bytes: &mut [u8], word: u32)
     requires { 4 ≤ length bytes.old }
     ensures { bytes.new ≡ bytes_of (is_big order) 4 word ++ drop 4 bytes.old }

@@ -53,6 +53,13 @@ impl<T> List<T> {
     {
         self.items.as_slice()
     }
+
+    /// The items themselves, to be taken one by one. Takes no memory.
+    pub fn into_vec(self) -> Vec<T>
+        ensures { result.items ≡ self }
+    {
+        self.items
+    }
 }
 
 impl<T: Drop> List<T> {

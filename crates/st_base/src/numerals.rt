@@ -1,6 +1,6 @@
-//! Numbers as they are printed.
+//! Numbers as they are printed, and the digits that spell them.
 
-ghost use Rattle.std.specs.Prelude.{◌≡◌, ◌++◌, ◌<◌, decimal, OnOk};
+ghost use Rattle.std.specs.Prelude.{◌≡◌, ◌++◌, ◌<◌, decimal, OnOk, IfSome};
 ghost use Rattle.st_base.specs.Numerals as spec;
 ghost use Rattle.st_base.specs.Shown.{hex_digit as digit_of};
 
@@ -14,6 +14,19 @@ pub(crate) fn hex_digit(n: u8) -> u8
     ensures { result ≡ digit_of n }
 {
     if n < 10 { b'0' + n } else { b'a' - 10 + n }
+}
+
+/// The value of a hexadecimal digit of either case; `None` exactly for every other byte. Takes no memory.
+pub fn digit_value(byte: u8) -> Option<u32>
+    ensures value { result ≡ spec.digit_value byte }
+    ensures low { IfSome result (λ value. value < 16) }
+{
+    match byte {
+        b'0'..=b'9' => Some(u32::from(byte - b'0')),
+        b'a'..=b'f' => Some(u32::from(byte - b'a' + 10)),
+        b'A'..=b'F' => Some(u32::from(byte - b'A' + 10)),
+        _ => None,
+    }
 }
 
 /// Appends the digits of a number in decimal.

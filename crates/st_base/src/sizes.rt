@@ -13,5 +13,7 @@ pub const RELOC_SIZE: usize = 8;
 pub const LEAST_STAB: u8 = 0x20;
 /// The most bytes of a file, of an image and of a string table, and of all inputs of one run together.
 pub const FILE_LIMIT: u64 = 134_217_728;
+/// The most bytes of one assembly source.
+pub const SOURCE_LIMIT: u64 = 16_777_216;
 /// The highest address.
 pub const GREATEST_ADDRESS: u64 = 4_294_967_295;

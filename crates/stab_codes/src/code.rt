@@ -27,8 +27,8 @@ pub const N_SO: u8 = 0x64;
 /// A variable on the stack, or a type. Name: its symbol. Desc: the line of its declaration, or 0. Value: the offset from the
 /// frame, 0 for a type.
 pub const N_LSYM: u8 = 0x80;
-/// The start of an include range. Name: the header file. Value: 0 from a compiler; from a linker the number that tells ranges of
-/// one name apart.
+/// The start of an include range. Name: the header file. Value: 0 from a compiler; from a linker the number by which ranges
+/// of one name differ.
 pub const N_BINCL: u8 = 0x82;
 /// The source file of the lines after it. Name: that file. Value: the address where its code begins.
 pub const N_SOL: u8 = 0x84;

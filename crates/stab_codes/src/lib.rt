@@ -6,6 +6,7 @@
 #![tactic(auto)]
 
 mod code;
+mod laws;
 mod segment;
 mod table;
 
@@ -13,5 +14,6 @@ pub use code::{
     N_BINCL, N_EINCL, N_EXCL, N_FUN, N_GSYM, N_LBRAC, N_LCSYM, N_LSYM, N_MAIN, N_OPT, N_PSYM,
     N_RBRAC, N_ROSYM, N_RSYM, N_SLINE, N_SO, N_SOL, N_STSYM,
 };
+pub use laws::codes_are;
 pub use segment::{Segment, segment_of};
 pub use table::{carries_symbol, code_name, code_of, table_laws};

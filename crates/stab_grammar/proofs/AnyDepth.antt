@@ -6,13 +6,13 @@ use Rattle.readers.specs.Words.{name_at, is_name}
 use Rattle.readers.proofs.Cases.{which, ok_parts}
 use Rattle.readers.proofs.Cuts.{any_after, within_cut, within_none}
 use Rattle.readers.proofs.Starts.{Starts}
-use Rattle.stab_grammar.specs.declared.tree.TypeTree.{TypeTree}
-use Rattle.stab_grammar.specs.declared.tree.Descriptor.{Descriptor}
-use Rattle.stab_grammar.specs.declared.tree.Descriptor.TheVariants as descriptors
-use Rattle.stab_grammar.specs.declared.tree.Symbol.{Symbol}
-use Rattle.stab_grammar.specs.Spelling.{print_of, letters, print_symbol}
+use Rattle.stab_symbols.specs.declared.tree.TypeTree.{TypeTree}
+use Rattle.stab_symbols.specs.declared.tree.Descriptor.{Descriptor}
+use Rattle.stab_symbols.specs.declared.tree.Descriptor.TheVariants as descriptors
+use Rattle.stab_symbols.specs.declared.tree.Symbol.{Symbol}
+use Rattle.stab_symbols.specs.SymbolSpelling.{print_of, letters, print_symbol}
 use Rattle.stab_grammar.specs.Depth.{depths_of}
-use Rattle.stab_grammar.specs.Shape.{refused, begins_stack, descriptor_ok, ok, Shaped, ShapedSymbol}
+use Rattle.stab_symbols.specs.Shape.{refused, begins_stack, descriptor_ok, ok, Shaped, ShapedSymbol}
 use Rattle.stab_grammar.specs.Grammar.{begins_type, type_at}
 use Rattle.stab_grammar.proofs.Parts.{NameOk, symbol_name_part}
 use Rattle.stab_grammar.proofs.Forms.{type_starts}
@@ -40,14 +40,14 @@ one_type s t f g e =
     let n = most (depths_of s) + most (depths_of t) in
     (ok_parts _ _ s t [] [] (read_back n s f (omega arith)) (read_back n t g (omega arith)) (ap (λ (z : List ℕ). type_at n (z ++ [])) e)).0
 
--- ---- what stands behind the colon
+-- ---- what stands after the colon
 
--- behind `T`: with `t` a tag that is a typedef too
+-- after `T`: with `t` a tag that is a typedef too
 abbrev behind_tag : List ℕ → Descriptor × List ℕ
 behind_tag [] = (descriptors.Tag, [])
 behind_tag (b ∷ p) = cond (eqb b 116) (descriptors.TagTypedef, p) (descriptors.Tag, b ∷ p)
 
--- the descriptor of a letter, and what is behind it
+-- the descriptor of a letter, and what is after it
 abbrev by_letter : List ℕ → Descriptor × List ℕ
 by_letter [] = (descriptors.Stack, [])
 by_letter (b ∷ p) =

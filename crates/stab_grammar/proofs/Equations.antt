@@ -3,21 +3,21 @@ use Rattle.std.proofs.Common.{◌≡◌, ℕ, List, [], ◌∷◌, ◌++◌, map
 use Rattle.std.specs.Prelude.{decimal, ◌&&◌, nat_le}
 use Rattle.readers.specs.Words.{is_name}
 use Rattle.readers.specs.Spelling.{ended, all_of, none, inner, tail}
-use Rattle.stab_grammar.specs.declared.limits.TheConstants.{GREATEST_NUMBER}
-use Rattle.stab_grammar.specs.declared.tree.Num.{Num}
-use Rattle.stab_grammar.specs.declared.tree.Numeral.{Numeral}
-use Rattle.stab_grammar.specs.declared.tree.Tag.{Tag}
-use Rattle.stab_grammar.specs.declared.tree.Choice.{Choice}
-use Rattle.stab_grammar.specs.declared.tree.Field.{Field}
-use Rattle.stab_grammar.specs.declared.tree.TypeTree.{TypeTree}
-use Rattle.stab_grammar.specs.declared.tree.TypeTree.TheVariants.{Ref, Def, Pointer, Function, Const, Volatile, Range, Array, Struct, Union, Enum, Cross, Sized, Builtin, Real}
-use Rattle.stab_grammar.specs.declared.tree.TypeTree.TheVariants.{rolls-Ref, rolls-Def, rolls-Pointer, rolls-Function, rolls-Const, rolls-Volatile, rolls-Range, rolls-Array, rolls-Struct, rolls-Union, rolls-Enum, rolls-Cross, rolls-Sized, rolls-Builtin, rolls-Real}
-use Rattle.stab_grammar.specs.declared.tree.TypeTree.TheOpen.{TypeTree-F}
-use Rattle.stab_grammar.specs.declared.tree.TypeTree.TheViews.{out-TypeTree, roll-TypeTree, the_lemmas}
-use Rattle.stab_grammar.specs.declared.tree.TypeTree.TheFolds.{fold-roll-TypeTree, fold-roll-Field}
-use Rattle.stab_grammar.specs.Spelling.{num, numeral, tag_letter, choice, same, step, field_step, print_of, print_field}
+use Rattle.stab_symbols.specs.declared.limits.TheConstants.{GREATEST_NUMBER}
+use Rattle.stab_symbols.specs.declared.tree.Num.{Num}
+use Rattle.stab_symbols.specs.declared.tree.Numeral.{Numeral}
+use Rattle.stab_symbols.specs.declared.tree.Tag.{Tag}
+use Rattle.stab_symbols.specs.declared.tree.Choice.{Choice}
+use Rattle.stab_symbols.specs.declared.tree.Field.{Field}
+use Rattle.stab_symbols.specs.declared.tree.TypeTree.{TypeTree}
+use Rattle.stab_symbols.specs.declared.tree.TypeTree.TheVariants.{Ref, Def, Pointer, Function, Const, Volatile, Range, Array, Struct, Union, Enum, Cross, Sized, Builtin, Real}
+use Rattle.stab_symbols.specs.declared.tree.TypeTree.TheVariants.{rolls-Ref, rolls-Def, rolls-Pointer, rolls-Function, rolls-Const, rolls-Volatile, rolls-Range, rolls-Array, rolls-Struct, rolls-Union, rolls-Enum, rolls-Cross, rolls-Sized, rolls-Builtin, rolls-Real}
+use Rattle.stab_symbols.specs.declared.tree.TypeTree.TheOpen.{TypeTree-F}
+use Rattle.stab_symbols.specs.declared.tree.TypeTree.TheViews.{out-TypeTree, roll-TypeTree, the_lemmas}
+use Rattle.stab_symbols.specs.declared.tree.TypeTree.TheFolds.{fold-roll-TypeTree, fold-roll-Field}
+use Rattle.stab_symbols.specs.SymbolSpelling.{num, numeral, tag_letter, choice, same, step, field_step, print_of, print_field}
 use Rattle.stab_grammar.specs.Depth.{depth_step, field_inside, depths_of, depths_field}
-use Rattle.stab_grammar.specs.Shape.{refused, refused_item, num_ok, numeral_ok, choice_ok, begins_digit, left, first_fine, ok_step, field_ok, ok, ok_field}
+use Rattle.stab_symbols.specs.Shape.{refused, refused_item, num_ok, numeral_ok, choice_ok, begins_digit, left, first_fine, ok_step, field_ok, ok, ok_field}
 use Rattle.stab_grammar.specs.Grammar.{a_field}
 
 -- every type is a level that is rolled up

@@ -16,19 +16,19 @@ use Rattle.readers.proofs.Closed.{closed_laws}
 use Rattle.readers.proofs.Unless.{NotFirst, unless_form, unless_laws}
 use Rattle.readers.proofs.Many.{Each, many_form, many_laws}
 use Rattle.readers.proofs.Numbers.{no_digit}
-use Rattle.stab_grammar.specs.declared.limits.TheConstants.{GREATEST_NUMBER}
-use Rattle.stab_grammar.specs.declared.tree.Num.TheVariants.{Plain}
-use Rattle.stab_grammar.specs.declared.tree.Field.{Field}
-use Rattle.stab_grammar.specs.declared.tree.TypeTree.{TypeTree}
-use Rattle.stab_grammar.specs.declared.tree.TypeTree.TheVariants.{Ref}
-use Rattle.stab_grammar.specs.Spelling.{print_of, print_field}
+use Rattle.stab_symbols.specs.declared.limits.TheConstants.{GREATEST_NUMBER}
+use Rattle.stab_symbols.specs.declared.tree.Num.TheVariants.{Plain}
+use Rattle.stab_symbols.specs.declared.tree.Field.{Field}
+use Rattle.stab_symbols.specs.declared.tree.TypeTree.{TypeTree}
+use Rattle.stab_symbols.specs.declared.tree.TypeTree.TheVariants.{Ref}
+use Rattle.stab_symbols.specs.SymbolSpelling.{print_of, print_field}
 use Rattle.stab_grammar.specs.Depth.{depths_of, depths_field}
-use Rattle.stab_grammar.specs.Shape.{refused_item, begins_digit, left, first_fine, ok, ok_field, Shaped}
+use Rattle.stab_symbols.specs.Shape.{refused_item, begins_digit, left, first_fine, ok, ok_field, Shaped}
 use Rattle.stab_grammar.specs.Grammar.{plain_number, a_field, field_at, body_at}
 use Rattle.stab_grammar.proofs.Parts.{NumberOk, plain_part, number_and_part, ItemNameOk, item_name_part, item_apart}
 use Rattle.stab_grammar.proofs.Equations.{print-field, depths-field, ok-Ref, ok-field, parts_of}
 
--- behind a type stands no digit and no `=`
+-- after a type stands no digit and no `=`
 abbrev pub ends_type : ℕ → Bool
 ends_type c = not (is_digit c) && not (eqb c 61)
 
@@ -54,7 +54,7 @@ FieldParts p = ItemNameOk p.0 × (Shaped p.1.0 × (NumberOk p.1.1.0 × NumberOk 
 ok_first : (p : List ℕ × (TypeTree × (ℕ × ℕ))) → (ok_field (a_field p)).0 ≡ (is_name refused_item 58 p.0 && (ok p.1.0 && (nat_le p.1.1.0 GREATEST_NUMBER && nat_le p.1.1.1 GREATEST_NUMBER)))
 ok_first p = ap (λ (z : Bool × Bool). z.0) (ok-field p)
 
--- the name tells whether it begins with a digit
+-- the name says whether it begins with a digit
 ok_second : (p : List ℕ × (TypeTree × (ℕ × ℕ))) → (ok_field (a_field p)).1 ≡ begins_digit p.0
 ok_second p = ap (λ (z : Bool × Bool). z.1) (ok-field p)
 
@@ -114,11 +114,11 @@ pub lefts_from : (fs : List Field) → all_of left (map ok_field fs) ≡ true �
 lefts_from [] e = tt
 lefts_from (f ∷ fs) e = let k = and_parts (ok_field f).0 (all_of left (map ok_field fs)) e in (k.0, lefts_from fs k.1)
 
--- what stands behind the name
+-- what stands after the name
 abbrev field_rest : Field → List ℕ
 field_rest f = (print_of f.tree ++ 44 ∷ []) ++ ((decimal f.bit ++ 44 ∷ []) ++ (decimal f.bits ++ 59 ∷ []))
 
--- the first field's name stands in front
+-- the first field's name stands before
 fields_text : (f : Field) (fs : List Field) → print_fields (f ∷ fs) ≡ (f.name ++ 58 ∷ []) ++ (field_rest f ++ print_fields fs)
 fields_text f fs = ap (λ (z : List ℕ). z ++ print_fields fs) (print-field (parts_of f)) ∙ append_assoc (f.name ++ 58 ∷ []) (field_rest f) (print_fields fs)
 

@@ -10,17 +10,17 @@ use Rattle.readers.proofs.Made.{Of}
 use Rattle.readers.proofs.Optional.{opt_shaped, opt_print}
 use Rattle.readers.proofs.Starts.{Starts, starts_more}
 use Rattle.readers.proofs.Alternatives.{Alternatives, or_byte, or_alternative}
-use Rattle.stab_grammar.specs.declared.limits.TheConstants.{GREATEST_NUMBER}
-use Rattle.stab_grammar.specs.declared.tree.Num.{Num}
-use Rattle.stab_grammar.specs.declared.tree.Numeral.{Numeral}
-use Rattle.stab_grammar.specs.declared.tree.Field.{Field}
-use Rattle.stab_grammar.specs.declared.tree.TypeTree.{TypeTree}
-use Rattle.stab_grammar.specs.declared.tree.TypeTree.TheVariants.{Pointer, Function, Const, Volatile, Enum, Builtin}
-use Rattle.stab_grammar.specs.declared.tree.TypeTree.TheVariants.{rolls-Ref, rolls-Def, rolls-Pointer, rolls-Function, rolls-Const, rolls-Volatile, rolls-Range, rolls-Array, rolls-Struct, rolls-Union, rolls-Enum, rolls-Cross, rolls-Sized, rolls-Builtin, rolls-Real}
-use Rattle.stab_grammar.specs.declared.tree.TypeTree.TheOpen.{TypeTree-F}
-use Rattle.stab_grammar.specs.declared.tree.TypeTree.TheViews.{roll-TypeTree}
-use Rattle.stab_grammar.specs.Spelling.{num, print_of}
-use Rattle.stab_grammar.specs.Shape.{num_ok, numeral_ok, left, first_fine, ok, ok_field, Shaped}
+use Rattle.stab_symbols.specs.declared.limits.TheConstants.{GREATEST_NUMBER}
+use Rattle.stab_symbols.specs.declared.tree.Num.{Num}
+use Rattle.stab_symbols.specs.declared.tree.Numeral.{Numeral}
+use Rattle.stab_symbols.specs.declared.tree.Field.{Field}
+use Rattle.stab_symbols.specs.declared.tree.TypeTree.{TypeTree}
+use Rattle.stab_symbols.specs.declared.tree.TypeTree.TheVariants.{Pointer, Function, Const, Volatile, Enum, Builtin}
+use Rattle.stab_symbols.specs.declared.tree.TypeTree.TheVariants.{rolls-Ref, rolls-Def, rolls-Pointer, rolls-Function, rolls-Const, rolls-Volatile, rolls-Range, rolls-Array, rolls-Struct, rolls-Union, rolls-Enum, rolls-Cross, rolls-Sized, rolls-Builtin, rolls-Real}
+use Rattle.stab_symbols.specs.declared.tree.TypeTree.TheOpen.{TypeTree-F}
+use Rattle.stab_symbols.specs.declared.tree.TypeTree.TheViews.{roll-TypeTree}
+use Rattle.stab_symbols.specs.SymbolSpelling.{num, print_of}
+use Rattle.stab_symbols.specs.Shape.{num_ok, numeral_ok, left, first_fine, ok, ok_field, Shaped}
 use Rattle.stab_grammar.specs.Grammar.{a_range, an_array, a_struct, a_union, a_cross, a_sized, a_real, numbered, a_numbered, begins_type}
 use Rattle.stab_grammar.proofs.Parts.{NumberOk, NumOk, starts_num, NumeralOk, ChoicesOk, CrossParts, RealParts}
 use Rattle.stab_grammar.proofs.Equations.{by_layer, print-Ref, print-Def, print-Pointer, print-Function, print-Const, print-Volatile, print-Range, print-Array, print-Struct, print-Union, print-Enum, print-Cross, print-Sized, print-Builtin, print-Real, ok-Ref, ok-Def, ok-Pointer, ok-Function, ok-Const, ok-Volatile, ok-Range, ok-Array, ok-Struct, ok-Union, ok-Enum, ok-Cross, ok-Sized, ok-Builtin, ok-Real}
@@ -187,7 +187,7 @@ in_numbered t s = in_real t (inr s)
 abbrev pub Forms : (TypeTree → Type 0) → Type 0
 Forms = Alternatives print_of Shaped
 
--- a number, and what is behind `=`
+-- a number, and what is after `=`
 pub numbered_print : (n : Num) (o : Option TypeTree) → print_of (numbered n o) ≡ num n ++ opt_print 61 print_of o
 numbered_print n None = print-Ref n ∙ sym (append-nil (num n))
 numbered_print n (Some t) = print-Def n t

@@ -19,15 +19,15 @@ use Rattle.readers.proofs.Numbers.{no_digit}
 use Rattle.readers.proofs.Starts.{Starts}
 use Rattle.readers.proofs.Alternatives.{or_laws}
 use Rattle.readers.proofs.Knot.{without_node, head_laws}
-use Rattle.stab_grammar.specs.declared.tree.Num.{Num}
-use Rattle.stab_grammar.specs.declared.tree.Num.TheVariants.{Plain}
-use Rattle.stab_grammar.specs.declared.tree.Numeral.TheVariants.{Unbounded}
-use Rattle.stab_grammar.specs.declared.tree.Tag.TheVariants as tags
-use Rattle.stab_grammar.specs.declared.tree.TypeTree.{TypeTree}
-use Rattle.stab_grammar.specs.declared.tree.TypeTree.TheVariants.{Ref, Pointer, Function, Const, Volatile, Enum, Builtin}
-use Rattle.stab_grammar.specs.Spelling.{num, numeral, print_of}
+use Rattle.stab_symbols.specs.declared.tree.Num.{Num}
+use Rattle.stab_symbols.specs.declared.tree.Num.TheVariants.{Plain}
+use Rattle.stab_symbols.specs.declared.tree.Numeral.TheVariants.{Unbounded}
+use Rattle.stab_symbols.specs.declared.tree.Tag.TheVariants as tags
+use Rattle.stab_symbols.specs.declared.tree.TypeTree.{TypeTree}
+use Rattle.stab_symbols.specs.declared.tree.TypeTree.TheVariants.{Ref, Pointer, Function, Const, Volatile, Enum, Builtin}
+use Rattle.stab_symbols.specs.SymbolSpelling.{num, numeral, print_of}
 use Rattle.stab_grammar.specs.Depth.{depths_of}
-use Rattle.stab_grammar.specs.Shape.{Shaped}
+use Rattle.stab_symbols.specs.Shape.{Shaped}
 use Rattle.stab_grammar.specs.Grammar.{plain_number, num_at, numeral_at, choice_at, cross_at, real_at, a_range, an_array, a_struct, a_union, a_cross, a_sized, a_real, numbered, a_numbered, body_at, range_at, array_at, sized_at, numbered_at, level}
 use Rattle.stab_grammar.proofs.Parts.{NumberOk, number_and_part, NumOk, num_part, starts_num, numeral_and_part, ChoicesOk, choices_part, CrossParts, cross_part, RealParts, real_part}
 use Rattle.stab_grammar.proofs.Equations.{print-Pointer, print-Function, print-Const, print-Volatile, print-Range, print-Array, print-Struct, print-Union, print-Enum, print-Cross, print-Sized, print-Builtin, print-Real, depths-Ref, depths-Def, depths-Pointer, depths-Function, depths-Const, depths-Volatile, depths-Range, depths-Array, depths-Struct, depths-Union, depths-Enum, depths-Cross, depths-Sized, depths-Builtin, depths-Real, depths-head, ok-Ref}
@@ -49,7 +49,7 @@ none_tail : (test : ℕ → Bool) (p q : List ℕ) → Starts test p → 0 ∷ t
 none_tail test [] q s = absurd s
 none_tail test (b ∷ p) q s = refl
 
--- the types inside stand behind `=`
+-- the types inside stand after `=`
 numbered_depths : (n : Num) (o : Option TypeTree) → NumOk n → ins (numbered n o) ≡ none (num n) ++ opt_print 0 (λ t. inner (depths_of t)) o
 numbered_depths n None e =
     let s : 0 ∷ tail (none (num n) ++ []) ≡ none (num n) ++ [] = none_tail _ (num n) [] (starts_num n e) in

@@ -1,5 +1,3 @@
-pub mod DefinitionLemmas
-pub mod SurfaceLemmas
 mod Equations
 mod Parts
 mod Fields
@@ -9,7 +7,6 @@ mod Types
 mod Symbols
 mod Whole
 mod Examples
-mod Levels
 mod AnyDepth
 mod WithFiles
 mod PutBack
@@ -17,8 +14,4 @@ mod Spread
 mod Renamed
 mod SpreadShapes
 mod ShapeLaws
-pub mod WalkLemmas
-pub mod NumberLemmas
-mod OpeningLemmas
-mod PlacedLemmas
 mod Twice

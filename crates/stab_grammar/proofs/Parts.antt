@@ -16,16 +16,16 @@ use Rattle.readers.proofs.Many.{many_laws}
 use Rattle.readers.proofs.Numbers.{no_digit}
 use Rattle.readers.proofs.Starts.{Starts, apart_of, starts_as, starts_decimal}
 use Rattle.readers.proofs.Tests.{each_from, each_to, number_part, name_part, digits_part, starts_digits, name_apart}
-use Rattle.stab_grammar.specs.declared.limits.TheConstants.{GREATEST_FILE, GREATEST_NUMBER, MOST_DIGITS}
-use Rattle.stab_grammar.specs.declared.tree.Num.{Num}
-use Rattle.stab_grammar.specs.declared.tree.Num.TheVariants.{Plain, Pair}
-use Rattle.stab_grammar.specs.declared.tree.Numeral.{Numeral}
-use Rattle.stab_grammar.specs.declared.tree.Numeral.TheVariants.{Unbounded, Digits}
-use Rattle.stab_grammar.specs.declared.tree.Tag.{Tag}
-use Rattle.stab_grammar.specs.declared.tree.Tag.TheVariants as tags
-use Rattle.stab_grammar.specs.declared.tree.Choice.{Choice}
-use Rattle.stab_grammar.specs.Spelling.{num, numeral, tag_letter, choice}
-use Rattle.stab_grammar.specs.Shape.{refused, refused_item, num_ok, numeral_ok, value_ok, choice_ok}
+use Rattle.stab_symbols.specs.declared.limits.TheConstants.{GREATEST_FILE, GREATEST_NUMBER, MOST_DIGITS}
+use Rattle.stab_symbols.specs.declared.tree.Num.{Num}
+use Rattle.stab_symbols.specs.declared.tree.Num.TheVariants.{Plain, Pair}
+use Rattle.stab_symbols.specs.declared.tree.Numeral.{Numeral}
+use Rattle.stab_symbols.specs.declared.tree.Numeral.TheVariants.{Unbounded, Digits}
+use Rattle.stab_symbols.specs.declared.tree.Tag.{Tag}
+use Rattle.stab_symbols.specs.declared.tree.Tag.TheVariants as tags
+use Rattle.stab_symbols.specs.declared.tree.Choice.{Choice}
+use Rattle.stab_symbols.specs.SymbolSpelling.{num, numeral, tag_letter, choice}
+use Rattle.stab_symbols.specs.Shape.{refused, refused_item, num_ok, numeral_ok, value_ok, choice_ok}
 use Rattle.stab_grammar.specs.Grammar.{plain_number, a_pair, num_at, unbounded, digits_at, value_at, numeral_at, a_choice, choice_at, a_struct_tag, a_union_tag, an_enum_tag, tag_at, cross_at, real_at}
 
 -- ---- numbers
@@ -46,7 +46,7 @@ plain_part n = number_part n GREATEST_NUMBER (omega arith) (omega arith)
 pub starts_number : (k : ℕ) → NumberOk k → Starts is_digit (decimal k)
 starts_number k e = let le = leb-true k GREATEST_NUMBER e in starts_decimal k (omega (arith, le))
 
--- a number and the byte behind it
+-- a number and the byte after it
 pub number_and_part : (n b : ℕ) → no_digit b ≡ true → Laws n (closed plain_number b) (closed_form (leaf decimal NumberOk) b) any
 number_and_part n b other = closed_laws n plain_number _ no_digit (plain_part n) b other
 

@@ -2,18 +2,18 @@
 use Rattle.std.proofs.Common.{◌≡◌, ℕ, true, List, [], ◌∷◌, ◌++◌, map, refl, sym, ap, ◌∙◌, append_assoc, append-nil}
 use Rattle.std.proofs.lemmas.Grind.{flat_map-append}
 use Rattle.std.specs.Prelude.{flat_map}
-use Rattle.stab_grammar.specs.declared.tree.Num.{Num}
-use Rattle.stab_grammar.specs.declared.tree.Num.TheVariants.{Plain, Pair}
-use Rattle.stab_grammar.specs.declared.tree.Field.{Field, roll-Field}
-use Rattle.stab_grammar.specs.declared.tree.TypeTree.{TypeTree}
-use Rattle.stab_grammar.specs.declared.tree.TypeTree.TheVariants.{Ref, Def, Pointer, Function, Const, Volatile, Range, Array, Struct, Union, Enum, Cross, Sized, Builtin, Real}
-use Rattle.stab_grammar.specs.declared.tree.TypeTree.TheVariants.{rolls-Ref, rolls-Def, rolls-Pointer, rolls-Function, rolls-Const, rolls-Volatile, rolls-Range, rolls-Array, rolls-Struct, rolls-Union, rolls-Enum, rolls-Cross, rolls-Sized, rolls-Builtin, rolls-Real}
-use Rattle.stab_grammar.specs.declared.tree.TypeTree.TheOpen.{TypeTree-F, Field-F}
-use Rattle.stab_grammar.specs.declared.tree.TypeTree.TheViews.{roll-TypeTree}
-use Rattle.stab_grammar.specs.declared.tree.TypeTree.TheFolds.{fold-TypeTree, fold-Field, fold-roll-TypeTree, fold-roll-Field, map-TypeTree}
-use Rattle.stab_grammar.specs.Files.{file_in, files_in, num_with, tree_with, field_with}
-use Rattle.stab_grammar.specs.Walks.{all_of_them, field_numbers, numbers_step, numbers_in_field, all_numbers}
-use Rattle.stab_grammar.proofs.Levels as levels
+use Rattle.stab_symbols.specs.declared.tree.Num.{Num}
+use Rattle.stab_symbols.specs.declared.tree.Num.TheVariants.{Plain, Pair}
+use Rattle.stab_symbols.specs.declared.tree.Field.{Field, roll-Field}
+use Rattle.stab_symbols.specs.declared.tree.TypeTree.{TypeTree}
+use Rattle.stab_symbols.specs.declared.tree.TypeTree.TheVariants.{Ref, Def, Pointer, Function, Const, Volatile, Range, Array, Struct, Union, Enum, Cross, Sized, Builtin, Real}
+use Rattle.stab_symbols.specs.declared.tree.TypeTree.TheVariants.{rolls-Ref, rolls-Def, rolls-Pointer, rolls-Function, rolls-Const, rolls-Volatile, rolls-Range, rolls-Array, rolls-Struct, rolls-Union, rolls-Enum, rolls-Cross, rolls-Sized, rolls-Builtin, rolls-Real}
+use Rattle.stab_symbols.specs.declared.tree.TypeTree.TheOpen.{TypeTree-F, Field-F}
+use Rattle.stab_symbols.specs.declared.tree.TypeTree.TheViews.{roll-TypeTree}
+use Rattle.stab_symbols.specs.declared.tree.TypeTree.TheFolds.{fold-TypeTree, fold-Field, fold-roll-TypeTree, fold-roll-Field, map-TypeTree}
+use Rattle.stab_symbols.specs.Files.{file_in, files_in, num_with, tree_with, field_with}
+use Rattle.stab_symbols.specs.TypeWalks.{all_of_them, field_numbers, numbers_step, numbers_in_field, all_numbers}
+use Rattle.stab_symbols.proofs.Levels as levels
 use Rattle.stab_grammar.proofs.WithFiles.{with_level, fold-with, fold-with-field}
 
 -- ---- one after another

@@ -1,12 +1,12 @@
 -- The laws of the shape: two shaped symbols of one shape differ in files alone, and of one shape and the same files are one.
 use Rattle.std.proofs.Common.{◌≡◌, ℕ, ◌↔◌, true, List, [], ◌∷◌, ◌++◌, map, refl, sym, ap, ◌∙◌}
-use Rattle.stab_grammar.specs.declared.tree.TypeTree.{TypeTree}
-use Rattle.stab_grammar.specs.declared.tree.Descriptor.{Descriptor}
-use Rattle.stab_grammar.specs.declared.tree.Descriptor.TheVariants as descriptors
-use Rattle.stab_grammar.specs.declared.tree.Symbol.{Symbol}
-use Rattle.stab_grammar.specs.Spelling.{letters, print_symbol}
-use Rattle.stab_grammar.specs.Shape.{refused, descriptor_ok, ShapedSymbol}
-use Rattle.stab_grammar.specs.Files.{files_of, shape_of, with_files, file_0, DifferInFiles}
+use Rattle.stab_symbols.specs.declared.tree.TypeTree.{TypeTree}
+use Rattle.stab_symbols.specs.declared.tree.Descriptor.{Descriptor}
+use Rattle.stab_symbols.specs.declared.tree.Descriptor.TheVariants as descriptors
+use Rattle.stab_symbols.specs.declared.tree.Symbol.{Symbol}
+use Rattle.stab_symbols.specs.SymbolSpelling.{letters, print_symbol}
+use Rattle.stab_symbols.specs.Shape.{refused, descriptor_ok, ShapedSymbol}
+use Rattle.stab_symbols.specs.Files.{files_of, shape_of, with_files, file_0, DifferInFiles}
 use Rattle.stab_grammar.proofs.AnyDepth.{one_symbol, same_parts}
 use Rattle.stab_grammar.proofs.WithFiles.{shape-with, files-with}
 use Rattle.stab_grammar.proofs.PutBack.{known as tree_known}

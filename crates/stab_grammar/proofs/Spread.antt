@@ -1,4 +1,4 @@
--- Texts with a `0` behind each `(`: they have their bytes back, are made part by part, and digits and numbers stay as they are.
+-- Texts with a `0` after each `(`: they have their bytes back, are made part by part, and digits and numbers stay as they are.
 use Rattle.std.proofs.Common.{◌≡◌, ℕ, ◌+◌, ◌%◌, ◌^◌, ◌<◌, inl, inr, Bool, true, false, eqb, cond, List, [], ◌∷◌, ◌++◌, refl, ap, subst, ◌∙◌, arith}
 use Rattle.std.specs.Prelude.{decimal}
 use Rattle.std.proofs.lemmas.Bool.{and_parts, and_from, eqb-true, both_ways}
@@ -9,9 +9,9 @@ use Rattle.readers.proofs.Cases.{which}
 use Rattle.readers.proofs.Numbers.{is_digit_of}
 use Rattle.stab_grammar.proofs.WithFiles.{joined}
 
--- ---- a `0` behind each `(`
+-- ---- a `0` after each `(`
 
--- with a `0` behind each `(`
+-- with a `0` after each `(`
 abbrev pub spread : List ℕ → List ℕ
 spread [] = []
 spread (b ∷ p) = b ∷ cond (eqb b 40) (48 ∷ spread p) (spread p)

@@ -1,28 +1,28 @@
--- A shape says all but the files: with a `0` behind each `(` it is the spelling of a type without files whose names have a `0`
--- behind each `(` too. So equal shapes are equal spellings.
+-- A shape says all but the files: with a `0` after each `(` it is the spelling of a type without files whose names have a `0`
+-- after each `(` too. So equal shapes are equal spellings.
 use Rattle.std.proofs.Common.{◌≡◌, ℕ, Bool, true, false, not, eqb, List, [], ◌∷◌, ◌++◌, length, map, refl, sym, ap, ◌∙◌, arith}
 use Rattle.std.specs.Prelude.{decimal, nat_le, ◌&&◌}
 use Rattle.std.proofs.lemmas.Bool.{and_parts, and_from, leb-true}
 use Rattle.std.proofs.lemmas.Fmt.{decimal_digit}
 use Rattle.readers.specs.Spelling.{ended, all_of}
 use Rattle.readers.specs.Words.{is_digit, is_name, in_name, is_digits}
-use Rattle.stab_grammar.specs.declared.limits.TheConstants.{GREATEST_FILE, GREATEST_NUMBER, MOST_DIGITS}
-use Rattle.stab_grammar.specs.declared.tree.Num.{Num}
-use Rattle.stab_grammar.specs.declared.tree.Num.TheVariants.{Plain, Pair}
-use Rattle.stab_grammar.specs.declared.tree.Numeral.{Numeral}
-use Rattle.stab_grammar.specs.declared.tree.Numeral.TheVariants.{Unbounded, Digits}
-use Rattle.stab_grammar.specs.declared.tree.Tag.{Tag}
-use Rattle.stab_grammar.specs.declared.tree.Tag.TheVariants as tags
-use Rattle.stab_grammar.specs.declared.tree.Choice.{Choice}
-use Rattle.stab_grammar.specs.declared.tree.Field.{Field, roll-Field}
-use Rattle.stab_grammar.specs.declared.tree.TypeTree.{TypeTree}
-use Rattle.stab_grammar.specs.declared.tree.TypeTree.TheOpen.{TypeTree-F, Field-F}
-use Rattle.stab_grammar.specs.declared.tree.TypeTree.TheViews.{roll-TypeTree}
-use Rattle.stab_grammar.specs.declared.tree.TypeTree.TheFolds.{fold-roll-TypeTree, fold-roll-Field, map-TypeTree}
-use Rattle.stab_grammar.specs.Spelling.{num, numeral, tag_letter, choice, same, step, field_step, print_of, print_field}
-use Rattle.stab_grammar.specs.Shape.{refused, refused_item, num_ok, numeral_ok, value_ok, choice_ok, begins_digit, begins_stack, field_ok, left, first_fine, ok_step, ok, ok_field}
-use Rattle.stab_grammar.specs.Files.{num_shape, tree_shape, field_shape, num_with, file_0}
-use Rattle.stab_grammar.proofs.Levels as levels
+use Rattle.stab_symbols.specs.declared.limits.TheConstants.{GREATEST_FILE, GREATEST_NUMBER, MOST_DIGITS}
+use Rattle.stab_symbols.specs.declared.tree.Num.{Num}
+use Rattle.stab_symbols.specs.declared.tree.Num.TheVariants.{Plain, Pair}
+use Rattle.stab_symbols.specs.declared.tree.Numeral.{Numeral}
+use Rattle.stab_symbols.specs.declared.tree.Numeral.TheVariants.{Unbounded, Digits}
+use Rattle.stab_symbols.specs.declared.tree.Tag.{Tag}
+use Rattle.stab_symbols.specs.declared.tree.Tag.TheVariants as tags
+use Rattle.stab_symbols.specs.declared.tree.Choice.{Choice}
+use Rattle.stab_symbols.specs.declared.tree.Field.{Field, roll-Field}
+use Rattle.stab_symbols.specs.declared.tree.TypeTree.{TypeTree}
+use Rattle.stab_symbols.specs.declared.tree.TypeTree.TheOpen.{TypeTree-F, Field-F}
+use Rattle.stab_symbols.specs.declared.tree.TypeTree.TheViews.{roll-TypeTree}
+use Rattle.stab_symbols.specs.declared.tree.TypeTree.TheFolds.{fold-roll-TypeTree, fold-roll-Field, map-TypeTree}
+use Rattle.stab_symbols.specs.SymbolSpelling.{num, numeral, tag_letter, choice, same, step, field_step, print_of, print_field}
+use Rattle.stab_symbols.specs.Shape.{refused, refused_item, num_ok, numeral_ok, value_ok, choice_ok, begins_digit, begins_stack, field_ok, left, first_fine, ok_step, ok, ok_field}
+use Rattle.stab_symbols.specs.Files.{num_shape, tree_shape, field_shape, num_with, file_0}
+use Rattle.stab_symbols.proofs.Levels as levels
 use Rattle.stab_grammar.proofs.Equations.{by_layer}
 use Rattle.stab_grammar.proofs.WithFiles.{shape_step, joined}
 use Rattle.stab_grammar.proofs.Spread.{spread, spread-append, plain_byte, spread_digits, spread_decimal, all_spread}
@@ -48,11 +48,11 @@ spreads_both {a = a} {b = b} {p = p} {r = r} {c = c} {d = d} m n = record {
       (spread-append p r ∙ joined _ _ _ _ f.0 g.0, and_from c d f.1 g.1);
 }
 
--- a byte in front
+-- a byte before
 spreads_byte : (b : ℕ) {a : Bool} {p q : List ℕ} {c : Bool} → eqb b 40 ≡ false → Spreads a p q c → Spreads a (b ∷ p) (b ∷ q) c
 spreads_byte b miss m = record { says = λ e. let f = m.says e in (plain_byte b _ _ miss f.0, f.1) }
 
--- a byte behind
+-- a byte after
 pub spreads_end : (b : ℕ) {a : Bool} {p q : List ℕ} {c : Bool} → eqb b 40 ≡ false → Spreads a p q c → Spreads a (p ++ b ∷ []) (q ++ b ∷ []) c
 spreads_end b {p = p} miss m = record { says = λ e. let f = m.says e in (spread-append p (b ∷ []) ∙ joined _ _ _ _ f.0 (plain_byte b [] [] miss refl), f.1) }
 

@@ -17,16 +17,16 @@ use Rattle.readers.proofs.Optional.{opt_print, opt_shaped, optional_laws}
 use Rattle.readers.proofs.Unless.{NotFirst, unless_laws}
 use Rattle.readers.proofs.Starts.{Starts, starts_solid, after_starts}
 use Rattle.readers.proofs.Alternatives.{Alternatives, or_alternative, or_laws}
-use Rattle.stab_grammar.specs.declared.limits.TheConstants.{GREATEST_DEPTH}
-use Rattle.stab_grammar.specs.declared.tree.Num.TheVariants.{Plain}
-use Rattle.stab_grammar.specs.declared.tree.TypeTree.{TypeTree}
-use Rattle.stab_grammar.specs.declared.tree.TypeTree.TheVariants.{Ref}
-use Rattle.stab_grammar.specs.declared.tree.Descriptor.{Descriptor}
-use Rattle.stab_grammar.specs.declared.tree.Descriptor.TheVariants as descriptors
-use Rattle.stab_grammar.specs.declared.tree.Symbol.{Symbol}
-use Rattle.stab_grammar.specs.Spelling.{print_of, letters, print_symbol}
+use Rattle.stab_symbols.specs.declared.limits.TheConstants.{GREATEST_DEPTH}
+use Rattle.stab_symbols.specs.declared.tree.Num.TheVariants.{Plain}
+use Rattle.stab_symbols.specs.declared.tree.TypeTree.{TypeTree}
+use Rattle.stab_symbols.specs.declared.tree.TypeTree.TheVariants.{Ref}
+use Rattle.stab_symbols.specs.declared.tree.Descriptor.{Descriptor}
+use Rattle.stab_symbols.specs.declared.tree.Descriptor.TheVariants as descriptors
+use Rattle.stab_symbols.specs.declared.tree.Symbol.{Symbol}
+use Rattle.stab_symbols.specs.SymbolSpelling.{print_of, letters, print_symbol}
 use Rattle.stab_grammar.specs.Depth.{depths_of, depths_symbol}
-use Rattle.stab_grammar.specs.Shape.{refused, begins_stack, descriptor_ok, ok, Shaped, ShapedSymbol}
+use Rattle.stab_symbols.specs.Shape.{refused, begins_stack, descriptor_ok, ok, Shaped, ShapedSymbol}
 use Rattle.stab_grammar.specs.Grammar.{begins_type, type_at, Described, described, tagged, a_tagged, no_stack, stack_at, described_at, a_symbol, symbol_at}
 use Rattle.stab_grammar.specs.StringFaults.{symbol_form}
 use Rattle.stab_grammar.proofs.Equations.{print-Ref, ok-Ref}
@@ -35,7 +35,7 @@ use Rattle.stab_grammar.proofs.Fields.{ends_type, tree_form}
 use Rattle.stab_grammar.proofs.Forms.{type_starts}
 use Rattle.stab_grammar.proofs.Types.{type_laws}
 
--- ---- what stands behind the colon
+-- ---- what stands after the colon
 
 -- how a descriptor and a type are spelled
 abbrev print : Described → List ℕ
@@ -84,7 +84,7 @@ not_refused : (v : Bool) → not v ≡ false → v ≡ true
 not_refused true e = refl
 not_refused false e = sym e
 
--- the test tells it
+-- the test says so
 stack_from : (p : List ℕ) → begins_stack p ≡ true → NotFirst no_stack p
 stack_from [] e = absurd cc
 stack_from (b ∷ p) e = rw e refl

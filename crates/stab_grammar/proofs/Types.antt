@@ -8,13 +8,13 @@ use Rattle.readers.proofs.Laws.{Laws}
 use Rattle.readers.proofs.Deeper.{raise_laws}
 use Rattle.readers.proofs.Numbers.{digit_is}
 use Rattle.readers.proofs.Knot.{Opening, at_byte, too_deep_laws}
-use Rattle.stab_grammar.specs.declared.limits.TheConstants.{GREATEST_NUMBER}
-use Rattle.stab_grammar.specs.declared.tree.Num.TheVariants.{Plain, Pair}
-use Rattle.stab_grammar.specs.declared.tree.Numeral.TheVariants.{Unbounded}
-use Rattle.stab_grammar.specs.declared.tree.Tag.TheVariants as tags
-use Rattle.stab_grammar.specs.declared.tree.TypeTree.{TypeTree}
-use Rattle.stab_grammar.specs.declared.tree.TypeTree.TheVariants.{Ref, Pointer, Function, Const, Volatile, Range, Array, Struct, Union, Enum, Cross, Sized, Builtin, Real}
-use Rattle.stab_grammar.specs.Shape.{Shaped}
+use Rattle.stab_symbols.specs.declared.limits.TheConstants.{GREATEST_NUMBER}
+use Rattle.stab_symbols.specs.declared.tree.Num.TheVariants.{Plain, Pair}
+use Rattle.stab_symbols.specs.declared.tree.Numeral.TheVariants.{Unbounded}
+use Rattle.stab_symbols.specs.declared.tree.Tag.TheVariants as tags
+use Rattle.stab_symbols.specs.declared.tree.TypeTree.{TypeTree}
+use Rattle.stab_symbols.specs.declared.tree.TypeTree.TheVariants.{Ref, Pointer, Function, Const, Volatile, Range, Array, Struct, Union, Enum, Cross, Sized, Builtin, Real}
+use Rattle.stab_symbols.specs.Shape.{Shaped}
 use Rattle.stab_grammar.specs.Grammar.{begins_type, type_at}
 use Rattle.stab_grammar.proofs.Equations.{print-Ref, print-Pointer, print-Function, print-Const, print-Volatile, print-Range, print-Array, print-Struct, print-Union, print-Enum, print-Cross, print-Sized, print-Builtin, print-Real, depths-head, ok-Ref, ok-Pointer, ok-Function, ok-Const, ok-Volatile, ok-Range, ok-Array, ok-Struct, ok-Union, ok-Enum, ok-Cross, ok-Sized, ok-Builtin, ok-Real}
 use Rattle.stab_grammar.proofs.Fields.{ends_type, tree_form}

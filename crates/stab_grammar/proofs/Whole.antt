@@ -12,8 +12,8 @@ use Rattle.readers.specs.Readers.{Fails}
 use Rattle.readers.specs.Faults.{place_of, placed, told, LeavesWithin}
 use Rattle.readers.proofs.First as firsts
 use Rattle.readers.proofs.Answers as answers
-use Rattle.stab_grammar.specs.declared.limits.TheConstants.{GREATEST_DEPTH}
-use Rattle.stab_grammar.specs.declared.tree.Symbol.{Symbol}
+use Rattle.stab_symbols.specs.declared.limits.TheConstants.{GREATEST_DEPTH}
+use Rattle.stab_symbols.specs.declared.tree.Symbol.{Symbol}
 use Rattle.stab_grammar.specs.StringFaults.{IsSpelling, symbol_form, HasStringFault, IsFirstStringFault, fault_of, IsStringFault}
 use Rattle.stab_grammar.specs.Grammar.{symbol_at, whole_symbol}
 use Rattle.stab_grammar.proofs.Fields.{ends_type}
@@ -61,12 +61,12 @@ pub by_only : (text : List ℕ) (v : Result Symbol Unread) → Answers text v �
 unfolding Answers
 by_only text v h s is = answers.by_only GREATEST_DEPTH symbol_at symbol_form ends_type symbol_laws text v h s (from_spelling s text is)
 
--- the fault that is told is the first
+-- the fault that is reported is the first
 pub by_fault : (text : List ℕ) (v : Result Symbol Unread) → Answers text v → (f : TextFault) → v ≡ Err (unread.At f) → IsFirstStringFault text f
 unfolding Answers
 by_fault text v h f e = answers.by_fault GREATEST_DEPTH symbol_at symbol_form ends_type symbol_laws text v h f e
 
--- the first fault is told
+-- the first fault is reported
 pub by_first : (text : List ℕ) (v : Result Symbol Unread) → Answers text v → (f : TextFault) → IsFirstStringFault text f → (v ≡ Err (unread.At f)) ⊎ (v ≡ Err unread.Memory)
 unfolding Answers
 by_first text v h f is = answers.by_first GREATEST_DEPTH symbol_at symbol_form ends_type symbol_laws text v h f is
@@ -77,7 +77,7 @@ by_first text v h f is = answers.by_first GREATEST_DEPTH symbol_at symbol_form e
 pub one_place : (text : List ℕ) (f g : TextFault) → HasStringFault text f → HasStringFault text g → place_of f ≡ place_of g → f ≡ g
 one_place text f g h k e = firsts.one_place GREATEST_DEPTH symbol_at symbol_form ends_type symbol_laws text f g h k e
 
--- there is a symbol, or a fault that is told
+-- there is a symbol, or a fault that is reported
 pub some : (text : List ℕ) → ((s : Symbol) × IsSpelling s text) ⊎ ((f : Fault) × IsStringFault text f)
 unfolding whole_symbol
 some text = by_answer (whole_symbol text) refl
@@ -100,7 +100,7 @@ both_least p q h k = omega (arith, h, k)
 one_first : (text : List ℕ) (f g : TextFault) → IsFirstStringFault text f → IsFirstStringFault text g → f ≡ g
 one_first text f g h k = one_place text f g h.0 k.0 (both_least (place_of f) (place_of g) (h.1 g k.0) (k.1 f h.0))
 
--- so the fault that is told is one
+-- so one fault is reported
 pub one_fault : (text : List ℕ) (f g : Fault) → IsStringFault text f → IsStringFault text g → f ≡ g
 one_fault text f g h k = h.told ∙ ap fault_of (one_first text h.first k.first h.is_first k.is_first) ∙ sym k.told
 
@@ -115,8 +115,8 @@ not_both text s f is h =
     let k = firsts.answered GREATEST_DEPTH symbol_at symbol_form ends_type symbol_laws text h.first h.is_first in
     clash (whole_symbol text) s k.0 (firsts.only GREATEST_DEPTH symbol_at symbol_form ends_type symbol_laws text s is.shaped is.depth is.spelled) k.1
 
--- ---- from the first fault to the fault that is told
+-- ---- from the first fault to the fault that is reported
 
--- what is told of the first fault is told of the string
+-- what is reported of the first fault is reported of the string
 pub told_fault : (text : List ℕ) (g : TextFault) (h f : Fault) → IsFirstStringFault text g → h ≡ fault_of g → h ≡ f → IsStringFault text f
 told_fault text g h f is e same = record { first = g; is_first = is; told = sym same ∙ e }

@@ -3,19 +3,19 @@ use Rattle.std.proofs.Common.{◌≡◌, ℕ, true, false, List, [], ◌∷◌, 
 use Rattle.std.specs.Prelude.{decimal, flat_map}
 use Rattle.std.proofs.lemmas.List.{map-append}
 use Rattle.readers.specs.Spelling.{ended}
-use Rattle.stab_grammar.specs.declared.tree.Num.{Num}
-use Rattle.stab_grammar.specs.declared.tree.Num.TheVariants.{Plain, Pair}
-use Rattle.stab_grammar.specs.declared.tree.Field.{Field, roll-Field}
-use Rattle.stab_grammar.specs.declared.tree.TypeTree.{TypeTree}
-use Rattle.stab_grammar.specs.declared.tree.TypeTree.TheVariants.{rolls-Ref, rolls-Def, rolls-Pointer, rolls-Function, rolls-Const, rolls-Volatile, rolls-Range, rolls-Array, rolls-Struct, rolls-Union, rolls-Enum, rolls-Cross, rolls-Sized, rolls-Builtin, rolls-Real}
-use Rattle.stab_grammar.specs.declared.tree.TypeTree.TheOpen.{TypeTree-F, Field-F}
-use Rattle.stab_grammar.specs.declared.tree.TypeTree.TheViews.{roll-TypeTree}
-use Rattle.stab_grammar.specs.declared.tree.TypeTree.TheFolds.{fold-TypeTree, fold-Field, fold-roll-TypeTree, fold-roll-Field, map-TypeTree, map-Field}
-use Rattle.stab_grammar.specs.Spelling.{numeral, same, field_step}
-use Rattle.stab_grammar.specs.Printing.{level_text}
-use Rattle.stab_grammar.specs.Files.{file_in, files_in, num_shape, tree_shape, field_shape, num_with, with_step, tree_with, field_with}
-use Rattle.stab_grammar.specs.Walks.{all_of_them, field_numbers, numbers_step, numbers_in_field, all_numbers}
-use Rattle.stab_grammar.proofs.Levels as levels
+use Rattle.stab_symbols.specs.declared.tree.Num.{Num}
+use Rattle.stab_symbols.specs.declared.tree.Num.TheVariants.{Plain, Pair}
+use Rattle.stab_symbols.specs.declared.tree.Field.{Field, roll-Field}
+use Rattle.stab_symbols.specs.declared.tree.TypeTree.{TypeTree}
+use Rattle.stab_symbols.specs.declared.tree.TypeTree.TheVariants.{rolls-Ref, rolls-Def, rolls-Pointer, rolls-Function, rolls-Const, rolls-Volatile, rolls-Range, rolls-Array, rolls-Struct, rolls-Union, rolls-Enum, rolls-Cross, rolls-Sized, rolls-Builtin, rolls-Real}
+use Rattle.stab_symbols.specs.declared.tree.TypeTree.TheOpen.{TypeTree-F, Field-F}
+use Rattle.stab_symbols.specs.declared.tree.TypeTree.TheViews.{roll-TypeTree}
+use Rattle.stab_symbols.specs.declared.tree.TypeTree.TheFolds.{fold-TypeTree, fold-Field, fold-roll-TypeTree, fold-roll-Field, map-TypeTree, map-Field}
+use Rattle.stab_symbols.specs.SymbolSpelling.{numeral, same, field_step}
+use Rattle.stab_symbols.specs.Printing.{level_text}
+use Rattle.stab_symbols.specs.Files.{file_in, files_in, num_shape, tree_shape, field_shape, num_with, with_step, tree_with, field_with}
+use Rattle.stab_symbols.specs.TypeWalks.{all_of_them, field_numbers, numbers_step, numbers_in_field, all_numbers}
+use Rattle.stab_symbols.proofs.Levels as levels
 
 -- ---- one level
 

@@ -2,12 +2,12 @@
 -- one more. For each byte of a spelling there is the depth of the type that begins with it, or 0. Depth is this project's own.
 use Rattle.std.specs.Prelude.{ℕ, List, [], ◌∷◌, ◌++◌, decimal}
 use Rattle.readers.specs.Spelling.{ended, none, inner, tail}
-use Rattle.stab_grammar.specs.declared.tree.Field.{Field}
-use Rattle.stab_grammar.specs.declared.tree.TypeTree.{TypeTree}
-use Rattle.stab_grammar.specs.declared.tree.TypeTree.TheOpen.{TypeTree-F, Field-F}
-use Rattle.stab_grammar.specs.declared.tree.TypeTree.TheFolds.{fold-TypeTree, fold-Field}
-use Rattle.stab_grammar.specs.declared.tree.Symbol.{Symbol}
-use Rattle.stab_grammar.specs.Spelling.{num, numeral, choice, same, letters}
+use Rattle.stab_symbols.specs.declared.tree.Field.{Field}
+use Rattle.stab_symbols.specs.declared.tree.TypeTree.{TypeTree}
+use Rattle.stab_symbols.specs.declared.tree.TypeTree.TheOpen.{TypeTree-F, Field-F}
+use Rattle.stab_symbols.specs.declared.tree.TypeTree.TheFolds.{fold-TypeTree, fold-Field}
+use Rattle.stab_symbols.specs.declared.tree.Symbol.{Symbol}
+use Rattle.stab_symbols.specs.SymbolSpelling.{num, numeral, choice, same, letters}
 
 -- those of a field: no type begins in its name and its numbers
 abbrev pub field_inside : Field-F (List ℕ) (List ℕ) → List ℕ

@@ -4,21 +4,21 @@ use Rattle.std.specs.Prelude.{◌-◌, ℕ, zero, suc, List, Option, None, Some,
 use Rattle.readers.specs.declared.stop.Stop.{Stop}
 use Rattle.readers.specs.Readers.{Reader, seq, made, choose, nothing, done, byte_at, closed, optional, unless, many, too_deep, whole_of}
 use Rattle.readers.specs.Words.{is_digit, number_at, name_at, run_at}
-use Rattle.stab_grammar.specs.declared.limits.TheConstants.{GREATEST_DEPTH, GREATEST_FILE, GREATEST_NUMBER, MOST_DIGITS}
-use Rattle.stab_grammar.specs.declared.tree.Num.{Num}
-use Rattle.stab_grammar.specs.declared.tree.Num.TheVariants.{Plain, Pair}
-use Rattle.stab_grammar.specs.declared.tree.Numeral.{Numeral}
-use Rattle.stab_grammar.specs.declared.tree.Numeral.TheVariants.{Unbounded, Digits}
-use Rattle.stab_grammar.specs.declared.tree.Tag.{Tag}
-use Rattle.stab_grammar.specs.declared.tree.Tag.TheVariants as tags
-use Rattle.stab_grammar.specs.declared.tree.Choice.{Choice}
-use Rattle.stab_grammar.specs.declared.tree.Field.{Field, roll-Field}
-use Rattle.stab_grammar.specs.declared.tree.TypeTree.{TypeTree}
-use Rattle.stab_grammar.specs.declared.tree.TypeTree.TheVariants.{Ref, Def, Pointer, Function, Const, Volatile, Range, Array, Struct, Union, Enum, Cross, Sized, Builtin, Real}
-use Rattle.stab_grammar.specs.declared.tree.Descriptor.{Descriptor}
-use Rattle.stab_grammar.specs.declared.tree.Descriptor.TheVariants as descriptors
-use Rattle.stab_grammar.specs.declared.tree.Symbol.{Symbol}
-use Rattle.stab_grammar.specs.Shape.{refused, refused_item}
+use Rattle.stab_symbols.specs.declared.limits.TheConstants.{GREATEST_DEPTH, GREATEST_FILE, GREATEST_NUMBER, MOST_DIGITS}
+use Rattle.stab_symbols.specs.declared.tree.Num.{Num}
+use Rattle.stab_symbols.specs.declared.tree.Num.TheVariants.{Plain, Pair}
+use Rattle.stab_symbols.specs.declared.tree.Numeral.{Numeral}
+use Rattle.stab_symbols.specs.declared.tree.Numeral.TheVariants.{Unbounded, Digits}
+use Rattle.stab_symbols.specs.declared.tree.Tag.{Tag}
+use Rattle.stab_symbols.specs.declared.tree.Tag.TheVariants as tags
+use Rattle.stab_symbols.specs.declared.tree.Choice.{Choice}
+use Rattle.stab_symbols.specs.declared.tree.Field.{Field, roll-Field}
+use Rattle.stab_symbols.specs.declared.tree.TypeTree.{TypeTree}
+use Rattle.stab_symbols.specs.declared.tree.TypeTree.TheVariants.{Ref, Def, Pointer, Function, Const, Volatile, Range, Array, Struct, Union, Enum, Cross, Sized, Builtin, Real}
+use Rattle.stab_symbols.specs.declared.tree.Descriptor.{Descriptor}
+use Rattle.stab_symbols.specs.declared.tree.Descriptor.TheVariants as descriptors
+use Rattle.stab_symbols.specs.declared.tree.Symbol.{Symbol}
+use Rattle.stab_symbols.specs.Shape.{refused, refused_item}
 
 -- ---- the parts of a type that hold no type
 
@@ -74,11 +74,11 @@ an_enum_tag x = tags.Enum
 unfoldable pub tag_at : Reader Tag
 tag_at = choose 115 (made a_struct_tag done) (choose 117 (made a_union_tag done) (made an_enum_tag (byte_at 101)))
 
--- behind `x`: the tag's letter, `name:`
+-- after `x`: the tag's letter, `name:`
 unfoldable pub cross_at : Reader (Tag × List ℕ)
 cross_at = seq tag_at (name_at refused 58)
 
--- behind `R`: `a;b;c;`
+-- after `R`: `a;b;c;`
 unfoldable pub real_at : Reader (ℕ × (ℕ × ℕ))
 real_at = seq (closed plain_number 59) (seq (closed plain_number 59) (closed plain_number 59))
 
@@ -132,19 +132,19 @@ module _ (inner : Reader TypeTree) where
   unfoldable pub field_at : Reader Field
   field_at = made a_field (seq (name_at refused_item 58) (seq (closed inner 44) (seq (closed plain_number 44) (closed plain_number 59))))
 
-  -- behind `s` or `u`: the size, which takes all digits, the fields, `;`
+  -- after `s` or `u`: the size, which takes all digits, the fields, `;`
   unfoldable pub body_at : Reader (ℕ × List Field)
   body_at = seq plain_number (unless is_digit (many 59 field_at))
 
-  -- behind `r`: `type;low;high;`
+  -- after `r`: `type;low;high;`
   unfoldable pub range_at : Reader (TypeTree × (Numeral × Numeral))
   range_at = seq (closed inner 59) (seq (closed numeral_at 59) (closed numeral_at 59))
 
-  -- behind `a`: `rindex;low;high;item`
+  -- after `a`: `rindex;low;high;item`
   unfoldable pub array_at : Reader (TypeTree × (Numeral × (Numeral × TypeTree)))
   array_at = choose 114 (seq (closed inner 59) (seq (closed numeral_at 59) (seq (closed numeral_at 59) inner))) nothing
 
-  -- behind `@`: `sbits;type`
+  -- after `@`: `sbits;type`
   unfoldable pub sized_at : Reader (ℕ × TypeTree)
   sized_at = choose 115 (seq (closed plain_number 59) inner) nothing
 
@@ -195,7 +195,7 @@ Described = Descriptor × TypeTree
 abbrev pub described : Descriptor → TypeTree → Described
 described d t = (d, t)
 
--- a tag, or with `t` behind `T` a tag that is a typedef too
+-- a tag, or with `t` after `T` a tag that is a typedef too
 abbrev pub tagged : Option (Unit {0}) → TypeTree → Described
 tagged None t = (descriptors.Tag, t)
 tagged (Some u) t = (descriptors.TagTypedef, t)
@@ -208,7 +208,7 @@ a_tagged p = tagged p.0 p.1
 abbrev pub no_stack : ℕ → Bool
 no_stack b = not (is_digit b || (b == 40 || b == 45))
 
--- behind `T`: `t` or not, and the type
+-- after `T`: `t` or not, and the type
 abbrev pub tagged_at : Reader TypeTree → Reader Described
 tagged_at whole = made a_tagged (seq (optional 116 done) whole)
 
@@ -216,7 +216,7 @@ tagged_at whole = made a_tagged (seq (optional 116 done) whole)
 abbrev pub stack_at : Reader TypeTree → Reader Described
 stack_at whole = made (described descriptors.Stack) (unless no_stack whole)
 
--- behind the colon: the descriptor, by its letter, and the type
+-- after the colon: the descriptor, by its letter, and the type
 unfoldable pub described_at : Reader TypeTree → Reader Described
 described_at whole =
     choose 102 (made (described descriptors.StaticFun) whole)

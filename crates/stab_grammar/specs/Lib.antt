@@ -1,12 +1,3 @@
-pub mod Spelling
 pub mod Depth
-pub mod Shape
-pub mod Keys
-pub mod Walks
-pub mod Printing
-pub mod Surface
-pub mod Definitions
 pub mod StringFaults
 pub mod Grammar
-pub mod Files
-pub mod Opening

@@ -9,11 +9,11 @@ use Rattle.readers.specs.declared.fault.TextFault.{TextFault}
 use Rattle.readers.specs.declared.fault.TextFault.TheVariants.{Byte, End, Deep}
 use Rattle.readers.specs.Spelling.{Form, Within}
 use Rattle.readers.specs.Faults.{HasFault, IsFirstFault}
-use Rattle.stab_grammar.specs.declared.limits.TheConstants.{GREATEST_DEPTH}
-use Rattle.stab_grammar.specs.declared.tree.Symbol.{Symbol}
-use Rattle.stab_grammar.specs.Spelling.{print_symbol}
+use Rattle.stab_symbols.specs.declared.limits.TheConstants.{GREATEST_DEPTH}
+use Rattle.stab_symbols.specs.declared.tree.Symbol.{Symbol}
+use Rattle.stab_symbols.specs.SymbolSpelling.{print_symbol}
 use Rattle.stab_grammar.specs.Depth.{depths_symbol}
-use Rattle.stab_grammar.specs.Shape.{ShapedSymbol}
+use Rattle.stab_symbols.specs.Shape.{ShapedSymbol}
 
 -- ---- the symbol that a string spells
 
@@ -37,7 +37,7 @@ HasStringFault = HasFault GREATEST_DEPTH symbol_form
 abbrev pub IsFirstStringFault : List ℕ → TextFault → Type 0
 IsFirstStringFault = IsFirstFault GREATEST_DEPTH symbol_form
 
--- ---- the fault that is told
+-- ---- the fault that is reported
 
 -- number 40, 41 or 42, and the place in the string
 abbrev pub fault_of : TextFault → Fault
@@ -45,7 +45,7 @@ fault_of (Byte place) = fault_at BYTE place
 fault_of (End place) = fault_at END place
 fault_of (Deep place) = fault_at DEEP place
 
--- the first fault of the string is told so
+-- the first fault of the string is reported so
 pub record IsStringFault (text : List ℕ) (fault : Fault) : Type 0 where
   pub first : TextFault
   pub is_first : IsFirstStringFault text first

@@ -2,17 +2,18 @@ ghost use Rattle.std.specs.Prelude.{◌≡◌, ◌≤◌, Ok, Err};
 ghost use Rattle.readers.specs.Readers as readers;
 ghost use Rattle.readers.specs.Readers.{Gives};
 ghost use Rattle.readers.specs.Words as words;
-ghost use Rattle.stab_grammar.specs.declared.limits.TheConstants.{GREATEST_DEPTH};
+ghost use Rattle.stab_symbols.specs.declared.limits.TheConstants.{GREATEST_DEPTH};
 ghost use Rattle.stab_grammar.specs.Grammar as spec;
-ghost use Rattle.stab_grammar.specs.Shape as shape;
+ghost use Rattle.stab_symbols.specs.Shape as shape;
 
-use crate::descriptors::descriptors;
-use crate::limits::{GREATEST_DEPTH, GREATEST_FILE, GREATEST_NUMBER, MOST_DIGITS};
-use crate::tree::{Choice, Descriptor, Field, Num, Numeral, Symbol, Tag, TypeTree};
 use readers::{
     Refusal, Stop, bad, byte_at, digits_at, is_digit, name_at, number_and, number_at, text_of,
 };
 use st_base::{Boxed as Box, List, Text};
+use stab_symbols::{
+    Choice, Descriptor, Field, GREATEST_DEPTH, GREATEST_FILE, GREATEST_NUMBER, MOST_DIGITS, Num,
+    Numeral, Symbol, Tag, TypeTree, with_descriptors,
+};
 use std::alloc::Global;
 
 // ---- the parts of a type that hold no type
@@ -131,7 +132,7 @@ fn choices_at(alloc: Global, bytes: &[u8]) -> Result<(List<Choice>, &[u8]), Refu
     Ok((choices, rest))
 }
 
-/// An enumeration, behind `e`: the choices, `;`.
+/// An enumeration, after `e`: the choices, `;`.
 fn enum_at(alloc: Global, bytes: &[u8]) -> Result<(TypeTree, &[u8]), Refusal>
     ensures { Gives (λ x. (x.0, x.1.now)) result (readers.made TypeTree.Enum (readers.many 59 spec.choice_at) bytes.now) }
 {
@@ -153,7 +154,7 @@ fn tag_at(bytes: &[u8]) -> Result<(Tag, &[u8]), Refusal>
     }
 }
 
-/// A cross reference, behind `x`: the tag's letter, `name:`
+/// A cross reference, after `x`: the tag's letter, `name:`
 #[tactic(auto, unfolding(crate::specs::Grammar::cross_at))]
 fn cross_at(alloc: Global, bytes: &[u8]) -> Result<(TypeTree, &[u8]), Refusal>
     ensures { Gives (λ x. (x.0, x.1.now)) result (readers.made spec.a_cross spec.cross_at bytes.now) }
@@ -163,7 +164,7 @@ fn cross_at(alloc: Global, bytes: &[u8]) -> Result<(TypeTree, &[u8]), Refusal>
     Ok((TypeTree::Cross(tag, name), rest))
 }
 
-/// A type known by a negative number, behind `-`: `n;`
+/// A type known by a negative number, after `-`: `n;`
 fn builtin_at(bytes: &[u8]) -> Result<(TypeTree, &[u8]), Refusal>
     ensures { Gives (λ x. (x.0, x.1.now)) result (readers.made TypeTree.Builtin (readers.closed spec.plain_number 59) bytes.now) }
 {
@@ -171,7 +172,7 @@ fn builtin_at(bytes: &[u8]) -> Result<(TypeTree, &[u8]), Refusal>
     Ok((TypeTree::Builtin(number), rest))
 }
 
-/// A floating point type, behind `R`: `a;b;c;`
+/// A floating point type, after `R`: `a;b;c;`
 #[tactic(auto, unfolding(crate::specs::Grammar::real_at))]
 fn real_at(bytes: &[u8]) -> Result<(TypeTree, &[u8]), Refusal>
     ensures { Gives (λ x. (x.0, x.1.now)) result (readers.made spec.a_real spec.real_at bytes.now) }
@@ -203,7 +204,7 @@ fn boxed_and(alloc: Global, depth: usize, bytes: &[u8]) -> Result<(Box<TypeTree>
     Ok((tree, rest))
 }
 
-/// A pointer, behind `*`: `type`
+/// A pointer, after `*`: `type`
 #[cycle(parse)]
 fn pointer_at(alloc: Global, depth: usize, bytes: &[u8]) -> Result<(TypeTree, &[u8]), Refusal>
     ensures { Gives (λ x. (x.0, x.1.now)) result (readers.made TypeTree.Pointer (spec.type_at depth) bytes.now) }
@@ -212,7 +213,7 @@ fn pointer_at(alloc: Global, depth: usize, bytes: &[u8]) -> Result<(TypeTree, &[
     Ok((TypeTree::Pointer(tree), rest))
 }
 
-/// A function, by the type that it returns, behind `f`: `type`
+/// A function, by the type that it returns, after `f`: `type`
 #[cycle(parse)]
 fn function_at(alloc: Global, depth: usize, bytes: &[u8]) -> Result<(TypeTree, &[u8]), Refusal>
     ensures { Gives (λ x. (x.0, x.1.now)) result (readers.made TypeTree.Function (spec.type_at depth) bytes.now) }
@@ -221,7 +222,7 @@ fn function_at(alloc: Global, depth: usize, bytes: &[u8]) -> Result<(TypeTree, &
     Ok((TypeTree::Function(tree), rest))
 }
 
-/// A constant type, behind `k`: `type`
+/// A constant type, after `k`: `type`
 #[cycle(parse)]
 fn const_at(alloc: Global, depth: usize, bytes: &[u8]) -> Result<(TypeTree, &[u8]), Refusal>
     ensures { Gives (λ x. (x.0, x.1.now)) result (readers.made TypeTree.Const (spec.type_at depth) bytes.now) }
@@ -230,7 +231,7 @@ fn const_at(alloc: Global, depth: usize, bytes: &[u8]) -> Result<(TypeTree, &[u8
     Ok((TypeTree::Const(tree), rest))
 }
 
-/// A volatile type, behind `B`: `type`
+/// A volatile type, after `B`: `type`
 #[cycle(parse)]
 fn volatile_at(alloc: Global, depth: usize, bytes: &[u8]) -> Result<(TypeTree, &[u8]), Refusal>
     ensures { Gives (λ x. (x.0, x.1.now)) result (readers.made TypeTree.Volatile (spec.type_at depth) bytes.now) }
@@ -239,7 +240,7 @@ fn volatile_at(alloc: Global, depth: usize, bytes: &[u8]) -> Result<(TypeTree, &
     Ok((TypeTree::Volatile(tree), rest))
 }
 
-/// A range, behind `r`: `type;low;high;`
+/// A range, after `r`: `type;low;high;`
 #[cycle(parse)]
 #[tactic(auto, unfolding(crate::specs::Grammar::range_at))]
 fn range_at(alloc: Global, depth: usize, bytes: &[u8]) -> Result<(TypeTree, &[u8]), Refusal>
@@ -251,7 +252,7 @@ fn range_at(alloc: Global, depth: usize, bytes: &[u8]) -> Result<(TypeTree, &[u8
     Ok((TypeTree::Range(tree, low, high), rest))
 }
 
-/// An array, behind `a`: `rindex;low;high;item`
+/// An array, after `a`: `rindex;low;high;item`
 #[cycle(parse)]
 #[tactic(auto, unfolding(crate::specs::Grammar::array_at))]
 fn array_at(alloc: Global, depth: usize, bytes: &[u8]) -> Result<(TypeTree, &[u8]), Refusal>
@@ -316,7 +317,7 @@ fn fields_at(alloc: Global, depth: usize, bytes: &[u8]) -> Result<(List<Field>, 
     Ok((fields, rest))
 }
 
-/// A structure or union, behind `s` or `u`: the size, which takes all digits, the fields, `;`.
+/// A structure or union, after `s` or `u`: the size, which takes all digits, the fields, `;`.
 #[cycle(parse)]
 #[tactic(auto, unfolding(crate::specs::Grammar::body_at))]
 fn body_at(
@@ -339,7 +340,7 @@ fn body_at(
     }
 }
 
-/// A structure, behind `s`: the size, the fields, `;`.
+/// A structure, after `s`: the size, the fields, `;`.
 #[cycle(parse)]
 fn struct_at(alloc: Global, depth: usize, bytes: &[u8]) -> Result<(TypeTree, &[u8]), Refusal>
     ensures { Gives (λ x. (x.0, x.1.now)) result (readers.made spec.a_struct (spec.body_at (spec.type_at depth)) bytes.now) }
@@ -348,7 +349,7 @@ fn struct_at(alloc: Global, depth: usize, bytes: &[u8]) -> Result<(TypeTree, &[u
     Ok((TypeTree::Struct(size, fields), rest))
 }
 
-/// A union, behind `u`: the size, the fields, `;`.
+/// A union, after `u`: the size, the fields, `;`.
 #[cycle(parse)]
 fn union_at(alloc: Global, depth: usize, bytes: &[u8]) -> Result<(TypeTree, &[u8]), Refusal>
     ensures { Gives (λ x. (x.0, x.1.now)) result (readers.made spec.a_union (spec.body_at (spec.type_at depth)) bytes.now) }
@@ -357,7 +358,7 @@ fn union_at(alloc: Global, depth: usize, bytes: &[u8]) -> Result<(TypeTree, &[u8
     Ok((TypeTree::Union(size, fields), rest))
 }
 
-/// A type with its size, behind `@`: `sbits;type`
+/// A type with its size, after `@`: `sbits;type`
 #[cycle(parse)]
 #[tactic(auto, unfolding(crate::specs::Grammar::sized_at))]
 fn sized_at(alloc: Global, depth: usize, bytes: &[u8]) -> Result<(TypeTree, &[u8]), Refusal>
@@ -469,7 +470,7 @@ fn type_at(alloc: Global, depth: usize, bytes: &[u8]) -> Result<(TypeTree, &[u8]
 
 // ---- symbols
 
-/// The type behind a symbol descriptor.
+/// The type after a symbol descriptor.
 fn described(
     alloc: Global,
     descriptor: Descriptor,
@@ -481,7 +482,7 @@ fn described(
     Ok(((descriptor, tree), rest))
 }
 
-/// A tag, behind `T`: `t` or not, and the type.
+/// A tag, after `T`: `t` or not, and the type.
 fn tagged(alloc: Global, bytes: &[u8]) -> Result<((Descriptor, TypeTree), &[u8]), Refusal>
     ensures { Gives (λ x. (x.0, x.1.now)) result (spec.tagged_at (spec.type_at GREATEST_DEPTH) bytes.now) }
 {
@@ -506,12 +507,24 @@ fn stack(alloc: Global, bytes: &[u8]) -> Result<((Descriptor, TypeTree), &[u8]),
     }
 }
 
-/// The descriptor and the type, behind the colon of a symbol.
+// A `match` on the bytes after the colon of a symbol, by the letter that begins them.
+macro_rules! reading {
+    ($alloc:expr, $bytes:expr; in $($name:ident $letter:literal,)*) => {
+        match $bytes {
+            [] => Err(Refusal::At(Stop::End)),
+            $([$letter, rest @ ..] => described($alloc, Descriptor::$name, rest),)*
+            [b'T', rest @ ..] => tagged($alloc, rest),
+            _ => stack($alloc, $bytes),
+        }
+    };
+}
+
+/// The descriptor and the type, after the colon of a symbol.
 #[tactic(auto, unfolding(crate::specs::Grammar::described_at))]
 fn described_at(alloc: Global, bytes: &[u8]) -> Result<((Descriptor, TypeTree), &[u8]), Refusal>
     ensures { Gives (λ x. (x.0, x.1.now)) result (spec.described_at (spec.type_at GREATEST_DEPTH) bytes.now) }
 {
-    descriptors!(reading of alloc, bytes)
+    with_descriptors!(reading of alloc, bytes)
 }
 
 /// `name:`, the descriptor, the type.

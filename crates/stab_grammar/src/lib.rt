@@ -1,27 +1,20 @@
-//! Stab strings: a symbol is a name, a colon, a descriptor and a type, and a type is a tree with one
-//! spelling. This crate has the trees, the printer and the parser.
+//! Reading stab strings: a symbol is a name, a colon, a descriptor and a type, and each tree has one spelling. This crate has the
+//! parser and the laws of spellings, and hands on the trees, the printer and the walks of `stab_symbols`.
 //!
-//! The law that the layers above use: each tree that has a spelling is read back from it, and what is
-//! read is spelled so. After "The stabs debug format", the C parts.
+//! It stands on `stab_symbols` for what is read and on `readers` for reading from left to right. The law that the layers above use:
+//! each tree that has a spelling is read back from it, what is read is spelled so, and any other string is refused with its first
+//! fault. After "The stabs debug format", the C parts.
 #![tactic(auto)]
 
-mod definitions;
-mod descriptors;
-mod files;
 mod grammar;
-mod keys;
-mod limits;
-mod placed;
-mod printing;
+mod laws;
 mod read;
-mod tree;
-mod walk;
 
-pub use definitions::{DefinitionVisitor, StandsForTree, visit_definitions};
-pub use files::{numbers, renumber, shape, shape_laws};
-pub use keys::key_of;
-pub use placed::{print_placed, print_placed_by};
-pub use printing::{letters_of, print, print_type};
-pub use read::{one_place, one_symbol, parse};
-pub use tree::{Choice, Descriptor, Field, Key, Num, Numeral, Symbol, Tag, TypeTree};
-pub use walk::{NumberVisitor, visit_numbers, visit_surface};
+pub use laws::{one_place, one_symbol, shape_laws};
+pub use read::parse;
+pub use stab_symbols::{
+    Choice, DefinitionVisitor, Descriptor, Field, GREATEST_DEPTH, GREATEST_FILE, GREATEST_NUMBER,
+    Key, MOST_DIGITS, Num, NumberVisitor, Numeral, StandsForTree, Symbol, Tag, TypeTree, key_of,
+    letters_of, limits_are, numbers, print, print_placed, print_placed_by, print_type, renumber,
+    shape, visit_definitions, visit_numbers, visit_surface,
+};

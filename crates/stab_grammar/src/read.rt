@@ -1,15 +1,14 @@
-ghost use Rattle.std.specs.Prelude.{◌≡◌, ◌⊎◌, ◌+◌, List, ℕ, IfOk, Ok, Err};
+ghost use Rattle.std.specs.Prelude.{◌≡◌, ◌⊎◌, ◌+◌, IfOk, Ok, Err};
 ghost use Rattle.st_base.specs.declared.fault.Fault.{Fault};
 ghost use Rattle.readers.specs.declared.fault.TextFault.{TextFault};
-ghost use Rattle.readers.specs.Faults.{place_of};
-ghost use Rattle.stab_grammar.specs.declared.tree.Symbol.{Symbol};
+ghost use Rattle.stab_symbols.specs.declared.tree.Symbol.{Symbol};
 ghost use Rattle.stab_grammar.specs.StringFaults as spec;
-ghost use Rattle.stab_grammar.specs.StringFaults.{IsSpelling, HasStringFault, IsFirstStringFault, IsStringFault};
+ghost use Rattle.stab_grammar.specs.StringFaults.{IsSpelling, IsFirstStringFault, IsStringFault};
 
 use crate::grammar::whole_symbol;
-use crate::tree::Symbol;
 use readers::{TextFault, Unread, told};
 use st_base::{BYTE, DEEP, END, Fault, Refused, Steps};
+use stab_symbols::Symbol;
 use std::alloc::Global;
 use std::sync::ledger::Ledger;
 
@@ -19,9 +18,9 @@ fn read_symbol(alloc: Global, text: &[u8]) -> Result<Symbol, Unread>
     ensures found { IfOk result (λ s. IsSpelling s text.now) }
     // What is spelled so is read, unless memory runs out.
     ensures only { (s : Symbol) → IsSpelling s text.now → (result ≡ Ok s) ⊎ (result ≡ Err Unread.Memory) }
-    // A fault that is told is the first.
+    // A fault that is reported is the first.
     ensures fault { (f : TextFault) → result ≡ Err (Unread.At f) → IsFirstStringFault text.now f }
-    // The first fault is told, unless memory runs out.
+    // The first fault is reported, unless memory runs out.
     ensures first { (f : TextFault) → IsFirstStringFault text.now f → (result ≡ Err (Unread.At f)) ⊎ (result ≡ Err Unread.Memory) }
 {
     match whole_symbol(alloc, text) {
@@ -47,7 +46,7 @@ fn fault_of(fault: TextFault) -> Fault
 /// A number has no leading zero and is at most 2147483647, a file at most 65535; the bound of a range, `J` or digits with or
 /// without `-`, and the value of a choice have at most 40 digits, which are kept as they stand; types are at most 100 deep, the
 /// outermost included. The string may have any length. Any other string is refused with its first fault, the place in the
-/// string counted from 0 and within 0: `BYTE` is told at the first byte with which the string begins no spelling, `END` at its
+/// string counted from 0 and within 0: `BYTE` at the first byte with which the string begins no spelling, `END` at its
 /// length where it only begins one, `DEEP` where a type begins that is too deep. Takes memory for the tree; out of memory is its
 /// own answer. After "The stabs debug format", the C parts.
 pub fn parse<L: Ledger>(alloc: Global, text: &[u8], steps: &mut Steps<L>) -> Result<Symbol, Refused>
@@ -57,9 +56,9 @@ pub fn parse<L: Ledger>(alloc: Global, text: &[u8], steps: &mut Steps<L>) -> Res
     ensures found { IfOk result (λ s. IsSpelling s text.now) }
     // What is spelled so is read, unless memory runs out.
     ensures only { (s : Symbol) → IsSpelling s text.now → (result ≡ Ok s) ⊎ (result ≡ Err Refused.Memory) }
-    // A fault that is told is the first.
+    // A fault that is reported is the first.
     ensures fault { (f : Fault) → result ≡ Err (Refused.At f) → IsStringFault text.now f }
-    // The first fault is told, unless memory runs out.
+    // The first fault is reported, unless memory runs out.
     ensures first { (f : Fault) → IsStringFault text.now f → (result ≡ Err (Refused.At f)) ⊎ (result ≡ Err Refused.Memory) }
 {
     steps.tick();
@@ -69,16 +68,3 @@ pub fn parse<L: Ledger>(alloc: Global, text: &[u8], steps: &mut Steps<L>) -> Res
         Err(Unread::At(fault)) => Err(Refused::At(fault_of(fault))),
     }
 }
-
-/// Two faults of a string never have one place.
-pub fn one_place()
-    ensures { (text : List ℕ) (f g : TextFault) → HasStringFault text f → HasStringFault text g → place_of f ≡ place_of g → f ≡ g }
-{}
-
-/// A string either spells exactly one symbol, or has exactly one fault that is told.
-pub fn one_symbol()
-    ensures some { (text : List ℕ) → ((s : Symbol) × IsSpelling s text) ⊎ ((f : Fault) × IsStringFault text f) }
-    ensures one { (text : List ℕ) (s t : Symbol) → IsSpelling s text → IsSpelling t text → s ≡ t }
-    ensures one_fault { (text : List ℕ) (f g : Fault) → IsStringFault text f → IsStringFault text g → f ≡ g }
-    ensures not_both { (text : List ℕ) (s : Symbol) (f : Fault) → IsSpelling s text → IsStringFault text f → ⊥ }
-{}

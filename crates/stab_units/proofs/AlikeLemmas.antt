@@ -9,24 +9,25 @@ use Rattle.st_base.specs.Stabs.{is_stab}
 use Rattle.stab_codes.specs.declared.code.TheConstants.{N_SO, N_BINCL, N_EINCL, N_EXCL, N_LBRAC, N_RBRAC}
 use Rattle.stab_codes.specs.Table.{Row, table, carries_symbol}
 use Rattle.nlist_codec.specs.declared.named.Named.{Named}
-use Rattle.stab_units.specs.declared.kinds.Nesting.TheVariants.{Other}
-use Rattle.stab_units.specs.declared.kinds.Link.TheVariants.{Ends}
-use Rattle.stab_units.specs.declared.outline_types.Marks.{Marks}
-use Rattle.stab_units.specs.declared.outline_types.Marks.TheVariants.{Object}
+use Rattle.unit_outlines.specs.declared.kinds.Nesting.TheVariants.{Other}
+use Rattle.unit_outlines.specs.declared.kinds.Link.TheVariants.{Ends}
+use Rattle.unit_outlines.specs.declared.outline_types.Marks.{Marks}
+use Rattle.unit_outlines.specs.declared.outline_types.Marks.TheVariants.{Object}
 use Rattle.stab_units.specs.declared.unit.Unit.{Unit}
-use Rattle.stab_units.specs.Words.{next, ends_in}
-use Rattle.stab_units.specs.Firsts.{first_told}
-use Rattle.stab_units.specs.Nests.{nesting_of, in_headers, in_blocks}
-use Rattle.stab_units.specs.Runs.{is_open, same_kind, link_at, piece_of}
-use Rattle.stab_units.specs.Marks.{in_unit, is_header, headers_in}
-use Rattle.stab_units.specs.Outlines.{unit_tell, outline_tell, OutlineFault}
-use Rattle.stab_units.specs.Units.{is_plain, string_of}
-use Rattle.stab_units.specs.Worlds.{AreUnits}
+use Rattle.unit_outlines.specs.EntryWords.{next, ends_in}
+use Rattle.unit_outlines.specs.Firsts.{first_told}
+use Rattle.unit_outlines.specs.Nests.{nesting_of, in_headers, in_blocks}
+use Rattle.unit_outlines.specs.Runs.{is_open, same_kind, link_at, piece_of}
+use Rattle.unit_outlines.specs.Marks.{in_unit, is_header, headers_in, is_plain}
+use Rattle.unit_outlines.specs.Outlines.{unit_tell, outline_tell, OutlineFault}
+use Rattle.stab_units.specs.Units.{string_of}
+use Rattle.stab_units.specs.ObjectUnits.{AreUnits}
 use Rattle.stab_units.specs.Joining.{AreAlikeStabs, IsAlike, AreAlike}
-use Rattle.stab_units.proofs.FirstLemmas.{first_of_all}
-use Rattle.stab_units.proofs.Together.{outline_first, one_fault}
-use Rattle.stab_units.proofs.ForgetLemmas.{is_kind, nest_tell-map, goes_on-map, text_of-map, run_tells-map, first_told-map, same_smallest, same_string}
-use Rattle.stab_units.proofs.UntoldLemmas.{fault-untold}
+use Rattle.unit_outlines.proofs.FirstLemmas.{first_of_all}
+use Rattle.unit_outlines.proofs.Together.{outline_first, one_fault}
+use Rattle.stab_units.proofs.ForgetLemmas.{nest_tell-map, goes_on-map, text_of-map, run_tells-map, first_told-map, same_smallest, same_string}
+use Rattle.unit_outlines.proofs.UntoldLemmas.{fault-untold}
+use Rattle.unit_outlines.proofs.EntryKinds.{is_kind}
 use Rattle.stab_units.proofs.ReadableLemmas.{begins, SpellsAt, Readable, same_spells, units-readable, readable-units}
 
 -- ---- kinds that are no stabs

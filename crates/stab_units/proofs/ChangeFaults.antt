@@ -7,24 +7,24 @@ use Rattle.st_base.specs.Stabs.{is_stab}
 use Rattle.stab_codes.specs.declared.code.TheConstants.{N_SO, N_EXCL}
 use Rattle.stab_codes.specs.Table.{carries_symbol}
 use Rattle.nlist_codec.specs.declared.named.Named.{Named}
-use Rattle.stab_units.specs.declared.kinds.Nesting.{Nesting}
-use Rattle.stab_units.specs.declared.kinds.Nesting.TheVariants.{Opens, Closes, Parts, Other}
-use Rattle.stab_units.specs.declared.kinds.Link.TheVariants.{Ends, Goes, Broken}
-use Rattle.stab_units.specs.declared.limits.TheConstants.{HEADER_LIMIT}
-use Rattle.stab_units.specs.declared.outline_types.Marks.{Marks}
-use Rattle.stab_units.specs.declared.outline_types.Marks.TheVariants.{Image}
-use Rattle.stab_units.specs.Words.{next, is_empty}
-use Rattle.stab_units.specs.Firsts.{told_at}
-use Rattle.stab_units.specs.Nests.{in_headers, in_blocks, nest_tell}
-use Rattle.stab_units.specs.Runs.{is_open, link_at, piece_of, broken, more_text, long_at, continued, joined, run_tell}
-use Rattle.stab_units.specs.Marks.{is_header}
-use Rattle.stab_units.specs.Outlines.{of_object, place_tell, unit_tell, outline_tell, OutlineFault}
-use Rattle.stab_units.specs.Sweeps.{files_turned, within_behind, headers_behind, sweep_places}
-use Rattle.stab_units.specs.Changing.{Change, all_headers, range_in, is_kept_in, changed}
-use Rattle.stab_units.proofs.ForgetLemmas.{is_kind}
-use Rattle.stab_units.proofs.PlaceSweep.{places_are}
-use Rattle.stab_units.proofs.UntoldLemmas.{Untold, Unbroken, untold-first, first-untold, none_at, neither, both_none, told-quiet, quiet-told, untold-unbroken, untold-fault}
-use Rattle.stab_units.proofs.KindLemmas.{IsMark, carrier, open_carries, no_carries_open, no_carries_piece, closed_ends, closes_stab}
+use Rattle.unit_outlines.specs.declared.kinds.Nesting.{Nesting}
+use Rattle.unit_outlines.specs.declared.kinds.Nesting.TheVariants.{Opens, Closes, Parts, Other}
+use Rattle.unit_outlines.specs.declared.kinds.Link.TheVariants.{Ends, Goes, Broken}
+use Rattle.unit_outlines.specs.declared.limits.TheConstants.{HEADER_LIMIT}
+use Rattle.unit_outlines.specs.declared.outline_types.Marks.{Marks}
+use Rattle.unit_outlines.specs.declared.outline_types.Marks.TheVariants.{Image}
+use Rattle.unit_outlines.specs.EntryWords.{next, is_empty}
+use Rattle.unit_outlines.specs.Firsts.{told_at}
+use Rattle.unit_outlines.specs.Nests.{in_headers, in_blocks, nest_tell}
+use Rattle.unit_outlines.specs.Runs.{is_open, link_at, piece_of, broken, more_text, long_at, continued, joined, run_tell}
+use Rattle.unit_outlines.specs.Marks.{is_header, all_headers, range_in}
+use Rattle.unit_outlines.specs.Outlines.{of_object, place_tell, unit_tell, outline_tell, OutlineFault}
+use Rattle.unit_outlines.specs.Sweeps.{files_turned, within_behind, headers_behind, sweep_places}
+use Rattle.stab_units.specs.Changing.{Change, is_kept_in, changed}
+use Rattle.unit_outlines.proofs.EntryKinds.{is_kind, closes_stab}
+use Rattle.unit_outlines.proofs.PlaceSweep.{places_are}
+use Rattle.unit_outlines.proofs.UntoldLemmas.{Untold, Unbroken, untold-first, first-untold, none_at, neither, both_none, told-quiet, quiet-told, untold-unbroken, untold-fault}
+use Rattle.stab_units.proofs.KindLemmas.{IsMark, carrier, open_carries, no_carries_open, no_carries_piece, closed_ends}
 use Rattle.stab_units.proofs.ChangeSteps.{open_places, same_range, Turn, marked, stays, goes_out, before, after, Stays, GoesOut, Walk, kept_places, same_continued}
 use Rattle.stab_units.proofs.ChangeWalks.{matched_step, IsMatched, untold-matched, matched-untold, matched_next, turns, before-turns, after-turns, walk}
 

@@ -6,18 +6,19 @@ use Rattle.st_base.specs.declared.fault.TheConstants.{NO_UNIT}
 use Rattle.st_base.specs.Stabs.{is_stab}
 use Rattle.stab_codes.specs.declared.code.TheConstants.{N_SO, N_BINCL, N_EXCL}
 use Rattle.nlist_codec.specs.declared.named.Named.{Named}
-use Rattle.stab_units.specs.declared.kinds.SourceMark.{SourceMark}
-use Rattle.stab_units.specs.declared.kinds.SourceMark.TheVariants.{Directory, Start, Stop, NoMark}
-use Rattle.stab_units.specs.declared.outline_types.Marks.{Marks}
-use Rattle.stab_units.specs.declared.outline_types.HeaderMark.{HeaderMark}
-use Rattle.stab_units.specs.Words.{next, is_empty, ends_in}
-use Rattle.stab_units.specs.Marks.{names_source, mark_at, in_unit, is_header}
-use Rattle.stab_units.specs.Outlines.{header_at, headers_from, end_number, inside, end_step, end_of, span_step, span_at, units_from, directory_of, outline_tell}
-use Rattle.stab_units.specs.Changing.{Change, all_headers, range_in, is_kept_in, mark_changed, AreMarksChanged}
+use Rattle.unit_outlines.specs.declared.kinds.SourceMark.{SourceMark}
+use Rattle.unit_outlines.specs.declared.kinds.SourceMark.TheVariants.{Directory, Start, Stop, NoMark}
+use Rattle.unit_outlines.specs.declared.outline_types.Marks.{Marks}
+use Rattle.unit_outlines.specs.declared.outline_types.HeaderMark.{HeaderMark}
+use Rattle.unit_outlines.specs.EntryWords.{next, is_empty, ends_in}
+use Rattle.unit_outlines.specs.Marks.{names_source, mark_at, in_unit, is_header, all_headers, range_in}
+use Rattle.unit_outlines.specs.Outlines.{header_at, headers_from, end_number, inside, end_step, end_of, span_step, span_at, units_from, directory_of, outline_tell}
+use Rattle.stab_units.specs.Changing.{Change, is_kept_in, mark_changed, AreMarksChanged}
 use Rattle.stab_units.proofs.AlikeLemmas.{both_true}
 use Rattle.stab_units.proofs.ReadableLemmas.{directory_next, no_stop, no_mark}
-use Rattle.stab_units.proofs.UntoldLemmas.{Untold, told-quiet}
-use Rattle.stab_units.proofs.KindLemmas.{header_kind, header_mark, source_header, no_source_mark}
+use Rattle.unit_outlines.proofs.UntoldLemmas.{Untold, told-quiet}
+use Rattle.unit_outlines.proofs.EntryKinds.{source_header, no_source_mark}
+use Rattle.stab_units.proofs.KindLemmas.{header_kind, header_mark}
 use Rattle.stab_units.proofs.ChangeSteps.{source_range, Turn, marked, stays, goes_out, before, after, IsMarked, Stays, Walk}
 use Rattle.stab_units.proofs.ChangeWalks.{walk}
 

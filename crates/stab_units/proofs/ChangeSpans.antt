@@ -6,21 +6,21 @@ use Rattle.std.specs.List.{AllByRecursion}
 use Rattle.st_base.specs.Stabs.{is_stab}
 use Rattle.stab_codes.specs.declared.code.TheConstants.{N_SO}
 use Rattle.nlist_codec.specs.declared.named.Named.{Named}
-use Rattle.stab_units.specs.declared.kinds.SourceMark.{SourceMark}
-use Rattle.stab_units.specs.declared.kinds.SourceMark.TheVariants.{Directory, Start, Stop, NoMark}
-use Rattle.stab_units.specs.declared.outline_types.Marks.{Marks}
-use Rattle.stab_units.specs.declared.outline_types.Marks.TheVariants.{Image}
-use Rattle.stab_units.specs.declared.outline_types.UnitSpan.{UnitSpan}
-use Rattle.stab_units.specs.Words.{next, is_empty, ends_in}
-use Rattle.stab_units.specs.Marks.{names_source, mark_at, in_unit, is_header}
-use Rattle.stab_units.specs.Outlines.{headers_from, inside, span_step, span_at, units_from, units_of, directory_of, outline_tell, OutlineFault}
+use Rattle.unit_outlines.specs.declared.kinds.SourceMark.{SourceMark}
+use Rattle.unit_outlines.specs.declared.kinds.SourceMark.TheVariants.{Directory, Start, Stop, NoMark}
+use Rattle.unit_outlines.specs.declared.outline_types.Marks.{Marks}
+use Rattle.unit_outlines.specs.declared.outline_types.Marks.TheVariants.{Image}
+use Rattle.unit_outlines.specs.declared.outline_types.UnitSpan.{UnitSpan}
+use Rattle.unit_outlines.specs.EntryWords.{next, is_empty, ends_in}
+use Rattle.unit_outlines.specs.Marks.{names_source, mark_at, in_unit, is_header, all_headers, range_in, start_in}
+use Rattle.unit_outlines.specs.Outlines.{headers_from, inside, span_step, span_at, units_from, units_of, directory_of, outline_tell, OutlineFault}
 use Rattle.stab_units.specs.Units.{stabs_from, stabs_of, AreRead}
-use Rattle.stab_units.specs.Changing.{Change, all_headers, range_in, is_kept_in, mark_changed, changed_at, changed_from, changed, is_left_item, IsLocalIfGone, LocalsGo, IsSpanChanged, AreSpansChanged, AreMarksChanged}
+use Rattle.stab_units.specs.Changing.{Change, is_kept_in, mark_changed, changed_at, changed_from, changed, is_left_item, IsLocalIfGone, LocalsGo, IsSpanChanged, AreSpansChanged, AreMarksChanged}
 use Rattle.stab_units.proofs.AlikeLemmas.{both_true}
 use Rattle.stab_units.proofs.ReadableLemmas.{begins, directory_next, no_stop, no_mark, drop_next}
-use Rattle.stab_units.proofs.UntoldLemmas.{Untold, fault-untold}
-use Rattle.stab_units.proofs.KindLemmas.{source_header}
-use Rattle.stab_units.proofs.ChangeSteps.{open_places, range_open, source_places, start_in, Turn, marked, stays, goes_out, before, after, GoesOut, Walk}
+use Rattle.unit_outlines.proofs.UntoldLemmas.{Untold, fault-untold}
+use Rattle.unit_outlines.proofs.EntryKinds.{source_header}
+use Rattle.stab_units.proofs.ChangeSteps.{open_places, range_open, source_places, Turn, marked, stays, goes_out, before, after, GoesOut, Walk}
 use Rattle.stab_units.proofs.ChangeWalks.{turns, before-turns, after-turns, walk}
 use Rattle.stab_units.proofs.ChangeFaults.{NoBlockGoes, outline_matched, changed_outline}
 use Rattle.stab_units.proofs.ChangeStabs.{stabs_from-far, source_stabs, more_stabs, same_start, all_behind, gone_block, stabs_after}

@@ -7,20 +7,21 @@ use Rattle.st_base.specs.Stabs.{is_stab}
 use Rattle.stab_codes.specs.declared.code.TheConstants.{N_SO, N_BINCL, N_EINCL, N_EXCL, N_LBRAC, N_RBRAC}
 use Rattle.stab_codes.specs.Table.{carries_symbol}
 use Rattle.nlist_codec.specs.declared.named.Named.{Named}
-use Rattle.stab_units.specs.declared.kinds.Nesting.TheVariants.{Other}
-use Rattle.stab_units.specs.declared.outline_types.Marks.{Marks}
-use Rattle.stab_units.specs.Nests.{nesting_of, in_headers, in_blocks}
-use Rattle.stab_units.specs.Runs.{continued}
-use Rattle.stab_units.specs.Marks.{is_header, headers_in, file_step, file_in}
-use Rattle.stab_units.specs.Outlines.{outline_tell}
-use Rattle.stab_units.specs.Units.{Stab, Filed, is_plain, string_of, begun, stab_at, stabs_from, IsTextOf, AreRead}
-use Rattle.stab_units.specs.Changing.{Change, range_in, is_kept_in, is_left, is_left_item, IsLocalIfGone}
-use Rattle.stab_units.proofs.ForgetLemmas.{is_kind, same_file}
+use Rattle.unit_outlines.specs.declared.kinds.Nesting.TheVariants.{Other}
+use Rattle.unit_outlines.specs.declared.outline_types.Marks.{Marks}
+use Rattle.unit_outlines.specs.Nests.{nesting_of, in_headers, in_blocks}
+use Rattle.unit_outlines.specs.Runs.{continued}
+use Rattle.unit_outlines.specs.Marks.{is_header, headers_in, file_step, file_in, is_plain, range_in, start_in}
+use Rattle.unit_outlines.specs.Outlines.{outline_tell}
+use Rattle.stab_units.specs.Units.{Stab, Filed, string_of, begun, stab_at, stabs_from, IsTextOf, AreRead}
+use Rattle.stab_units.specs.Changing.{Change, is_kept_in, is_left, is_left_item, IsLocalIfGone}
+use Rattle.stab_units.proofs.ForgetLemmas.{same_file}
 use Rattle.stab_units.proofs.AlikeLemmas.{no_plain}
 use Rattle.stab_units.proofs.ReadableLemmas.{begins, source_ends}
-use Rattle.stab_units.proofs.UntoldLemmas.{Untold, Unbroken, untold-unbroken}
-use Rattle.stab_units.proofs.KindLemmas.{carrier, continued_carries, source_parts}
-use Rattle.stab_units.proofs.ChangeSteps.{start_in, Turn, marked, stays, goes_out, before, after, left_file, IsBeside, Stays, GoesOut, Walk, same_continued, stays_file}
+use Rattle.unit_outlines.proofs.UntoldLemmas.{Untold, Unbroken, untold-unbroken}
+use Rattle.unit_outlines.proofs.EntryKinds.{is_kind, source_parts}
+use Rattle.stab_units.proofs.KindLemmas.{carrier, continued_carries}
+use Rattle.stab_units.proofs.ChangeSteps.{Turn, marked, stays, goes_out, before, after, left_file, IsBeside, Stays, GoesOut, Walk, same_continued, stays_file}
 use Rattle.stab_units.proofs.ChangeFaults.{same_joined}
 
 -- ---- behind an N_SO entries are read as if they stood alone

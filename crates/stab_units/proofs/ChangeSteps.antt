@@ -6,15 +6,17 @@ use Rattle.std.proofs.lemmas.Option.{same_Some}
 use Rattle.st_base.specs.Stabs.{is_stab}
 use Rattle.stab_codes.specs.declared.code.TheConstants.{N_SO, N_BINCL, N_EINCL, N_EXCL}
 use Rattle.nlist_codec.specs.declared.named.Named.{Named}
-use Rattle.stab_units.specs.declared.kinds.Nesting.{Nesting}
-use Rattle.stab_units.specs.declared.kinds.Nesting.TheVariants.{Opens, Closes, Parts, Other}
-use Rattle.stab_units.specs.Words.{behind_first}
-use Rattle.stab_units.specs.Nests.{nesting_of, in_headers}
-use Rattle.stab_units.specs.Runs.{is_open, link_at, goes, continued}
-use Rattle.stab_units.specs.Marks.{is_header, headers_in, file_step, file_in}
-use Rattle.stab_units.specs.Sweeps.{files_turned}
-use Rattle.stab_units.specs.Changing.{Change, all_headers, range_step, range_in, is_kept_in, mark_changed, is_left}
-use Rattle.stab_units.proofs.KindLemmas.{IsMark, header_kind, header_mark, either_mark, carrier, open_carries, no_carries_open, closed_ends, continued_carries, opens_header, closes_stab, parts_source, source_parts, source_header}
+use Rattle.unit_outlines.specs.declared.kinds.Nesting.{Nesting}
+use Rattle.unit_outlines.specs.declared.kinds.Nesting.TheVariants.{Opens, Closes, Parts, Other}
+use Rattle.unit_outlines.specs.EntryWords.{behind_first}
+use Rattle.unit_outlines.specs.Nests.{nesting_of, in_headers}
+use Rattle.unit_outlines.specs.Runs.{is_open, link_at, goes, continued}
+use Rattle.unit_outlines.specs.Marks.{is_header, headers_in, file_step, file_in, all_headers, start_in, range_step, range_in}
+use Rattle.unit_outlines.specs.Sweeps.{files_turned}
+use Rattle.unit_outlines.proofs.EntryKinds.{opens_header, closes_stab, parts_source, source_parts, source_header}
+use Rattle.stab_units.specs.Changing.{Change, is_kept_in, mark_changed, is_left}
+use Rattle.stab_units.proofs.KindLemmas.{IsMark, header_kind, header_mark, either_mark, carrier, open_carries, no_carries_open, closed_ends, continued_carries}
+use Rattle.unit_outlines.proofs.RangeLemmas.{range_of, range_file, one_file, behind_get}
 
 -- ---- ranges that are open
 
@@ -22,10 +24,6 @@ use Rattle.stab_units.proofs.KindLemmas.{IsMark, header_kind, header_mark, eithe
 abbrev pub open_places : List Named → List ℕ
 open_places [] = []
 open_places (e ∷ back) = files_turned (in_headers e) (all_headers back) (open_places back)
-
-behind_get : (places : List ℕ) (n : ℕ) → slice_get places (suc n) ≡ slice_get (behind_first places) n
-behind_get [] n = refl
-behind_get (place ∷ places) n = refl
 
 range_turned : (s : Nesting) (ends place : ℕ) (outer : ℕ → Option ℕ) (places : List ℕ) → ((n : ℕ) → outer n ≡ slice_get places n)
     → range_step s ends place outer ≡ slice_get (files_turned s place places) ends
@@ -50,68 +48,6 @@ source_range e back ends is = ap (λ s. range_step s ends (all_headers back) (ra
 
 pub source_places : (e : Named) (back : List Named) → (e.kind == N_SO) ≡ true → open_places (e ∷ back) ≡ []
 source_places e back is = ap (λ s. files_turned s (all_headers back) (open_places back)) (source_parts e.kind is)
-
--- ---- ranges and files
-
--- how many headers stand before the unit of the entry behind these
-abbrev pub start_in : List Named → ℕ
-start_in [] = 0
-start_in (e ∷ back) = cond (e.kind == N_SO) (all_headers back) (start_in back)
-
-counts_by : (source header : Bool) (all start here : ℕ) → (source ≡ true → header ≡ false) → all ≡ start + here
-    → cond header (all + 1) all ≡ cond source all start + cond source 0 (cond header (here + 1) here)
-counts_by true true all start here apart is = let other = apart refl in absurd cc
-counts_by true false all start here apart is = omega arith
-counts_by false true all start here apart is = omega arith
-counts_by false false all start here apart is = is
-
--- all headers are those before the unit and those in it
-pub all_counted : (back : List Named) → all_headers back ≡ start_in back + headers_in back
-all_counted [] = omega arith
-all_counted (e ∷ back) = counts_by (e.kind == N_SO) (is_header e.kind) (all_headers back) (start_in back) (headers_in back) (source_header e.kind) (all_counted back)
-
--- the range of a file of the unit whose first header has this place
-abbrev pub range_of : ℕ → ℕ → Option ℕ
-range_of start zero = None
-range_of start (suc file) = Some (start + file)
-
-range_at : (all all_new start start_new here here_new : ℕ) → all ≡ start + here → all_new ≡ start_new + here_new → all_new ≡ all + 1 → start_new ≡ start
-    → Some all ≡ range_of start_new here_new
-range_at all all_new start start_new here zero was is more same = absurd (omega arith)
-range_at all all_new start start_new here (suc n) was is more same = let place : all ≡ start_new + n = omega arith in ap Some place
-
-file_turned : (s : Nesting) (ends number place start start_new : ℕ) (f : ℕ → Option ℕ) (g : ℕ → ℕ) → (s ≡ Opens → Some place ≡ range_of start_new number)
-    → ((s ≡ Parts) ⊎ (start_new ≡ start)) → ((n : ℕ) → f n ≡ range_of start (g n)) → range_step s ends place f ≡ range_of start_new (file_step s ends number g)
-file_turned Opens zero number place start start_new f g opens apart same = opens refl
-file_turned Opens (suc ends) number place start start_new f g opens apart same = elim apart [ inl parts ↦ absurd cc | inr is ↦ rw is (same ends) ]
-file_turned Closes ends number place start start_new f g opens apart same = elim apart [ inl parts ↦ absurd cc | inr is ↦ rw is (same (suc ends)) ]
-file_turned Parts ends number place start start_new f g opens apart same = refl
-file_turned Other ends number place start start_new f g opens apart same = elim apart [ inl parts ↦ absurd cc | inr is ↦ rw is (same ends) ]
-
-start_by : (source : Bool) (e : Named) (back : List Named) → (e.kind == N_SO) ≡ source → (in_headers e ≡ Parts) ⊎ (start_in (e ∷ back) ≡ start_in back)
-start_by true e back is = inl (source_parts e.kind is)
-start_by false e back is = inr (rw is refl)
-
--- an entry that opens a range has the next place, and its file the next number
-opened_file : (e : Named) (back : List Named) → in_headers e ≡ Opens → Some (all_headers back) ≡ range_of (start_in (e ∷ back)) (headers_in (e ∷ back))
-opened_file e back opens =
-    let header = opens_header e.kind opens in
-    let mark = header_mark e.kind header in
-    range_at (all_headers back) (all_headers (e ∷ back)) (start_in back) (start_in (e ∷ back)) (headers_in back) (headers_in (e ∷ back)) (all_counted back) (all_counted (e ∷ back))
-    (rw header refl) (rw mark.source refl)
-
--- the range of an entry is that of its file
-pub range_file : (back : List Named) (ends : ℕ) → range_in back ends ≡ range_of (start_in back) (file_in back ends)
-range_file [] ends = refl
-range_file (e ∷ back) ends = file_turned (in_headers e) ends (headers_in (e ∷ back)) (all_headers back) (start_in back) (start_in (e ∷ back)) (range_in back) (file_in back)
-    (opened_file e back) (start_by (e.kind == N_SO) e back refl) (range_file back)
-
--- files of one range are one
-pub one_file : (start m n : ℕ) → range_of start m ≡ range_of start n → m ≡ n
-one_file start zero zero same = refl
-one_file start zero (suc n) same = absurd cc
-one_file start (suc m) zero same = absurd cc
-one_file start (suc m) (suc n) same = let is = same_Some (start + m) (start + n) same in omega arith
 
 -- ---- turns
 

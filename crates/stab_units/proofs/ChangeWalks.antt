@@ -5,15 +5,15 @@ use Rattle.st_base.specs.declared.fault.Fault.{Fault}
 use Rattle.st_base.specs.Stabs.{is_stab}
 use Rattle.stab_codes.specs.declared.code.TheConstants.{N_SO}
 use Rattle.nlist_codec.specs.declared.named.Named.{Named}
-use Rattle.stab_units.specs.declared.kinds.Nesting.{Nesting}
-use Rattle.stab_units.specs.declared.kinds.Nesting.TheVariants.{Opens, Closes, Parts, Other}
-use Rattle.stab_units.specs.Nests.{in_headers, nest_tell}
-use Rattle.stab_units.specs.Marks.{is_header}
-use Rattle.stab_units.specs.Sweeps.{files_turned, begun, still, sweep_step, sweep}
-use Rattle.stab_units.specs.Changing.{Change, all_headers, range_in, is_kept_in, mark_changed, changed_at, changed_from}
-use Rattle.stab_units.proofs.NestSweep.{sweep_first}
-use Rattle.stab_units.proofs.UntoldLemmas.{Untold, untold-first, first-untold}
-use Rattle.stab_units.proofs.KindLemmas.{source_parts}
+use Rattle.unit_outlines.specs.declared.kinds.Nesting.{Nesting}
+use Rattle.unit_outlines.specs.declared.kinds.Nesting.TheVariants.{Opens, Closes, Parts, Other}
+use Rattle.unit_outlines.specs.Nests.{in_headers, nest_tell}
+use Rattle.unit_outlines.specs.Marks.{is_header, all_headers, range_in}
+use Rattle.unit_outlines.specs.Sweeps.{files_turned, begun, still, sweep_step, sweep}
+use Rattle.stab_units.specs.Changing.{Change, is_kept_in, mark_changed, changed_at, changed_from}
+use Rattle.unit_outlines.proofs.NestSweep.{sweep_first}
+use Rattle.unit_outlines.proofs.UntoldLemmas.{Untold, untold-first, first-untold}
+use Rattle.unit_outlines.proofs.EntryKinds.{source_parts}
 use Rattle.stab_units.proofs.ChangeSteps.{open_places, range_open, Turn, marked, stays, goes_out, before, after, IsBeside, Stays, GoesOut, Walk, is_marked, beside-marked, beside-stays, beside-gone}
 
 -- ---- marks that match

@@ -8,27 +8,28 @@ use Rattle.st_base.specs.declared.fault.TheConstants.{OPEN_HEADER, CLOSED_HEADER
 use Rattle.stab_codes.specs.declared.code.TheConstants.{N_SO, N_BINCL}
 use Rattle.stab_codes.specs.Table.{carries_symbol}
 use Rattle.nlist_codec.specs.declared.named.Named.{Named}
-use Rattle.stab_units.specs.declared.kinds.SourceMark.{SourceMark}
-use Rattle.stab_units.specs.declared.kinds.SourceMark.TheVariants.{Directory, Start, Stop, NoMark}
-use Rattle.stab_units.specs.declared.kinds.Nesting.{Nesting}
-use Rattle.stab_units.specs.declared.kinds.Nesting.TheVariants.{Opens, Closes, Parts, Other}
-use Rattle.stab_units.specs.declared.kinds.Link.{Link}
-use Rattle.stab_units.specs.declared.outline_types.Marks.{Marks}
-use Rattle.stab_units.specs.declared.outline_types.Marks.TheVariants.{Object}
-use Rattle.stab_units.specs.declared.outline_types.HeaderMark.{HeaderMark}
-use Rattle.stab_units.specs.declared.outline_types.UnitSpan.{UnitSpan}
+use Rattle.unit_outlines.specs.declared.kinds.SourceMark.{SourceMark}
+use Rattle.unit_outlines.specs.declared.kinds.SourceMark.TheVariants.{Directory, Start, Stop, NoMark}
+use Rattle.unit_outlines.specs.declared.kinds.Nesting.{Nesting}
+use Rattle.unit_outlines.specs.declared.kinds.Nesting.TheVariants.{Opens, Closes, Parts, Other}
+use Rattle.unit_outlines.specs.declared.kinds.Link.{Link}
+use Rattle.unit_outlines.specs.declared.outline_types.Marks.{Marks}
+use Rattle.unit_outlines.specs.declared.outline_types.Marks.TheVariants.{Object}
+use Rattle.unit_outlines.specs.declared.outline_types.HeaderMark.{HeaderMark}
+use Rattle.unit_outlines.specs.declared.outline_types.UnitSpan.{UnitSpan}
 use Rattle.stab_units.specs.declared.unit.Unit.{Unit}
 use Rattle.stab_units.specs.Forgetting.{forgotten}
-use Rattle.stab_units.specs.Words.{next}
-use Rattle.stab_units.specs.Firsts.{smaller, Telling, first_told}
-use Rattle.stab_units.specs.Nests.{one_more, closing, level, in_headers, in_blocks, nest_tell, closing_step}
-use Rattle.stab_units.specs.Runs.{link_at, piece_of, goes_on, text_of, run_tells, continued}
-use Rattle.stab_units.specs.Marks.{mark_at, in_unit, headers_in, file_step, file_in}
-use Rattle.stab_units.specs.Outlines.{end_number, header_at, headers_from, inside, end_of, past_of, span_at, span_step, units_from, units_of, directory_of, unit_tell, outline_tell, OutlineFault}
-use Rattle.stab_units.specs.Units.{Stab, Filed, is_plain, string_of, stab_at, stabs_from, stabs_of, AreRead, header_name, unit_of, IsUnitOf, UnitFault, FirstFault, AreUnitsOf, SpansFault}
-use Rattle.stab_units.specs.Worlds.{AreUnits, UnitsFault}
-use Rattle.stab_units.proofs.FirstLemmas.{first_of_all}
-use Rattle.stab_units.proofs.Together.{outline_first, one_fault}
+use Rattle.unit_outlines.specs.EntryWords.{next}
+use Rattle.unit_outlines.specs.Firsts.{smaller, Telling, first_told}
+use Rattle.unit_outlines.specs.Nests.{one_more, closing, level, in_headers, in_blocks, nest_tell, closing_step}
+use Rattle.unit_outlines.specs.Runs.{link_at, piece_of, goes_on, text_of, run_tells, continued}
+use Rattle.unit_outlines.specs.Marks.{mark_at, in_unit, headers_in, file_step, file_in, is_plain}
+use Rattle.unit_outlines.specs.Outlines.{end_number, header_at, headers_from, inside, end_of, past_of, span_at, span_step, units_from, units_of, directory_of, unit_tell, outline_tell, OutlineFault}
+use Rattle.stab_units.specs.Units.{Stab, Filed, string_of, stab_at, stabs_from, stabs_of, AreRead, header_name, unit_of, IsUnitOf, UnitFault, FirstFault, AreUnitsOf, SpansFault}
+use Rattle.stab_units.specs.ObjectUnits.{AreUnits, UnitsFault}
+use Rattle.unit_outlines.proofs.FirstLemmas.{first_of_all}
+use Rattle.unit_outlines.proofs.Together.{outline_first, one_fault}
+use Rattle.unit_outlines.proofs.EntryKinds.{is_kind}
 
 -- ---- what is kept of an entry
 
@@ -47,9 +48,6 @@ kept_kind e = kind_of_either (e.kind == N_BINCL) e
 -- and its name
 kept_name : (e : Named) → (forgotten e).name ≡ e.name
 kept_name e = name_of_either (e.kind == N_BINCL) e
-
-pub is_kind : (n m : ℕ) → (n == m) ≡ true → n ≡ m
-is_kind n m e = grind arith
 
 kept_either : (b : Bool) (e : Named) → (e.kind == N_BINCL) ≡ b → (e.kind ≡ N_BINCL) ⊎ (cond b (record e { value = 0 }) e ≡ e)
 kept_either true e q = inl (is_kind e.kind N_BINCL q)

@@ -7,21 +7,21 @@ use Rattle.st_base.specs.Stabs.{is_stab}
 use Rattle.stab_codes.specs.declared.code.TheConstants.{N_SO, N_BINCL, N_EXCL}
 use Rattle.stab_codes.specs.Table.{carries_symbol}
 use Rattle.nlist_codec.specs.declared.named.Named.{Named}
-use Rattle.stab_units.specs.declared.kinds.SourceMark.{SourceMark}
-use Rattle.stab_units.specs.declared.kinds.SourceMark.TheVariants.{Directory, Start, Stop, NoMark}
-use Rattle.stab_units.specs.declared.outline_types.Marks.{Marks}
-use Rattle.stab_units.specs.declared.outline_types.HeaderMark.{HeaderMark}
-use Rattle.stab_units.specs.declared.outline_types.UnitSpan.{UnitSpan}
-use Rattle.stab_units.specs.Words.{next}
-use Rattle.stab_units.specs.Nests.{in_headers}
-use Rattle.stab_units.specs.Runs.{joined}
-use Rattle.stab_units.specs.Marks.{names_source, mark_at, in_unit, is_header, file_in}
-use Rattle.stab_units.specs.Outlines.{end_number, header_at, headers_from, inside, span_at, span_step, units_from, directory_of, outline_tell, OutlineFault}
+use Rattle.unit_outlines.specs.declared.kinds.SourceMark.{SourceMark}
+use Rattle.unit_outlines.specs.declared.kinds.SourceMark.TheVariants.{Directory, Start, Stop, NoMark}
+use Rattle.unit_outlines.specs.declared.outline_types.Marks.{Marks}
+use Rattle.unit_outlines.specs.declared.outline_types.HeaderMark.{HeaderMark}
+use Rattle.unit_outlines.specs.declared.outline_types.UnitSpan.{UnitSpan}
+use Rattle.unit_outlines.specs.EntryWords.{next}
+use Rattle.unit_outlines.specs.Nests.{in_headers}
+use Rattle.unit_outlines.specs.Runs.{joined}
+use Rattle.unit_outlines.specs.Marks.{names_source, mark_at, in_unit, is_header, file_in}
+use Rattle.unit_outlines.specs.Outlines.{end_number, header_at, headers_from, inside, span_at, span_step, units_from, directory_of, outline_tell, OutlineFault}
 use Rattle.stab_units.specs.Units.{Stab, string_of, stabs_from, header_name}
 use Rattle.stab_units.specs.HeaderUnits.{FileStab, HeaderUnit, file_stab, header_unit, has_headers, with_headers, header_units}
 use Rattle.stab_units.specs.Joining.{IsAlike, AreAlike}
 use Rattle.stab_units.proofs.ForgetLemmas.{same_file}
-use Rattle.stab_units.proofs.UntoldLemmas.{Untold, Unbroken, fault-untold, told-quiet, untold-unbroken, joined-more}
+use Rattle.unit_outlines.proofs.UntoldLemmas.{Untold, Unbroken, fault-untold, told-quiet, untold-unbroken, joined-more}
 use Rattle.stab_units.proofs.ReadableLemmas.{begins, no_stab, drop_next}
 use Rattle.stab_units.proofs.AlikeLemmas.{other_kind, no_header, no_plain, in_headers-like, headers_in-like, begins-like, string_of-like, shared, shared-like, all_shared}
 

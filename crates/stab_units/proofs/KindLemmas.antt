@@ -5,15 +5,14 @@ use Rattle.st_base.specs.Stabs.{is_stab}
 use Rattle.stab_codes.specs.declared.code.TheConstants.{N_SO, N_BINCL, N_EINCL, N_EXCL, N_LBRAC, N_RBRAC}
 use Rattle.stab_codes.specs.Table.{carries_symbol}
 use Rattle.nlist_codec.specs.declared.named.Named.{Named}
-use Rattle.stab_units.specs.declared.kinds.SourceMark.TheVariants.{NoMark}
-use Rattle.stab_units.specs.declared.kinds.Nesting.TheVariants.{Opens, Closes, Parts, Other}
-use Rattle.stab_units.specs.declared.kinds.Link.TheVariants.{Ends, Goes, Broken}
-use Rattle.stab_units.specs.Words.{ends_in}
-use Rattle.stab_units.specs.Nests.{nesting_of}
-use Rattle.stab_units.specs.Runs.{is_open, link_at, goes, piece_of, continued}
-use Rattle.stab_units.specs.Marks.{mark_at, is_header}
-use Rattle.stab_units.specs.Units.{is_plain}
-use Rattle.stab_units.proofs.ForgetLemmas.{is_kind}
+use Rattle.unit_outlines.specs.declared.kinds.SourceMark.TheVariants.{NoMark}
+use Rattle.unit_outlines.specs.declared.kinds.Nesting.TheVariants.{Opens, Closes, Parts, Other}
+use Rattle.unit_outlines.specs.declared.kinds.Link.TheVariants.{Ends, Goes, Broken}
+use Rattle.unit_outlines.specs.EntryWords.{ends_in}
+use Rattle.unit_outlines.specs.Nests.{nesting_of}
+use Rattle.unit_outlines.specs.Runs.{is_open, link_at, goes, piece_of, continued}
+use Rattle.unit_outlines.specs.Marks.{mark_at, is_header, is_plain}
+use Rattle.unit_outlines.proofs.EntryKinds.{is_kind}
 use Rattle.stab_units.proofs.AlikeLemmas.{no_carries, both_true}
 
 -- ---- marks of headers
@@ -122,45 +121,3 @@ continued_carries [] e is = absurd cc
 continued_carries (d ∷ back) e is =
     let both = goes_by (is_open d) (e.kind == d.kind) is in
     ap carries_symbol (is_kind e.kind d.kind both.1) ∙ open_carries d both.0
-
--- ---- marks that nest
-
-opens_by : (a b d : Bool) → cond a Opens (cond b Closes (cond d Parts Other)) ≡ Opens → a ≡ true
-opens_by true b d is = refl
-opens_by false true d is = absurd cc
-opens_by false false true is = absurd cc
-opens_by false false false is = absurd cc
-
-closes_by : (a b d : Bool) → cond a Opens (cond b Closes (cond d Parts Other)) ≡ Closes → b ≡ true
-closes_by true b d is = absurd cc
-closes_by false true d is = refl
-closes_by false false true is = absurd cc
-closes_by false false false is = absurd cc
-
-parts_by : (a b d : Bool) → cond a Opens (cond b Closes (cond d Parts Other)) ≡ Parts → d ≡ true
-parts_by true b d is = absurd cc
-parts_by false true d is = absurd cc
-parts_by false false true is = refl
-parts_by false false false is = absurd cc
-
--- what opens a range is a mark of a header
-pub opens_header : (k : ℕ) → nesting_of N_BINCL N_EINCL k ≡ Opens → is_header k ≡ true
-opens_header k is = ap is_header (is_kind k N_BINCL (opens_by (k == N_BINCL) (k == N_EINCL) (k == N_SO) is))
-
--- what closes one is a stab
-pub closes_stab : (k : ℕ) → nesting_of N_BINCL N_EINCL k ≡ Closes → is_stab k ≡ true
-closes_stab k is = ap is_stab (is_kind k N_EINCL (closes_by (k == N_BINCL) (k == N_EINCL) (k == N_SO) is))
-
--- what parts units is an N_SO
-pub parts_source : (k : ℕ) → nesting_of N_BINCL N_EINCL k ≡ Parts → (k == N_SO) ≡ true
-parts_source k is = parts_by (k == N_BINCL) (k == N_EINCL) (k == N_SO) is
-
-pub source_parts : (k : ℕ) → (k == N_SO) ≡ true → nesting_of N_BINCL N_EINCL k ≡ Parts
-source_parts k is = ap (nesting_of N_BINCL N_EINCL) (is_kind k N_SO is)
-
-pub source_header : (k : ℕ) → (k == N_SO) ≡ true → is_header k ≡ false
-source_header k is = ap is_header (is_kind k N_SO is)
-
--- what is no N_SO is no mark of a source
-pub no_source_mark : (e : Named) (o : Option Named) → (e.kind == N_SO) ≡ false → mark_at e o ≡ NoMark
-no_source_mark e o other = rw other refl

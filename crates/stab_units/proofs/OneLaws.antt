@@ -1,28 +1,19 @@
--- Entries have one outline or one fault; the stabs of a unit are read as one unit, or have one first fault; so do all units.
+-- The stabs of a unit are read as one unit, or have one first fault; so do all units.
 use Rattle.std.proofs.Common.{◌≡◌, ℕ, ◌⊎◌, inl, inr, Option, Some, None, Bool, true, false, refl, sym, ap, ◌∙◌, List, [], ◌∷◌}
 use Rattle.st_base.specs.declared.fault.Fault.{Fault}
 use Rattle.nlist_codec.specs.declared.named.Named.{Named}
-use Rattle.stab_grammar.specs.declared.tree.Symbol.{Symbol}
+use Rattle.stab_symbols.specs.declared.tree.Symbol.{Symbol}
 use Rattle.stab_grammar.specs.StringFaults.{IsSpelling, IsStringFault}
 use Rattle.stab_codes.specs.Table.{carries_symbol}
-use Rattle.stab_units.specs.declared.outline_types.Marks.{Marks}
-use Rattle.stab_units.specs.declared.outline_types.Marks.TheVariants.{Object}
-use Rattle.stab_units.specs.declared.outline_types.UnitSpan.{UnitSpan}
+use Rattle.unit_outlines.specs.declared.outline_types.Marks.TheVariants.{Object}
+use Rattle.unit_outlines.specs.declared.outline_types.UnitSpan.{UnitSpan}
 use Rattle.stab_units.specs.declared.unit.ItemText.{ItemText}
 use Rattle.stab_units.specs.declared.unit.ItemText.TheVariants as texts
 use Rattle.stab_units.specs.declared.unit.Unit.{Unit}
-use Rattle.stab_units.specs.Firsts.{first_told}
-use Rattle.stab_units.specs.Outlines.{outline_tell, OutlineFault, units_of}
+use Rattle.unit_outlines.specs.Outlines.{OutlineFault, units_of}
 use Rattle.stab_units.specs.Units.{Stab, Filed, spells, has_symbol, IsTextOf, HasFaultOf, HasFault, at_entry, item_of, IsRead, AreRead, FirstFault, unit_of, stabs_of, IsUnitOf, AreUnitsOf, UnitFault, SpansFault}
-use Rattle.stab_units.specs.Worlds.{AreUnits, UnitsFault}
-use Rattle.stab_units.proofs.FirstLemmas.{first_of_all}
-use Rattle.stab_units.proofs.Together.{one_fault}
-
--- ---- outlines
-
--- an outline has a fault or none
-pub some_outline : (marks : Marks) (es : List Named) → (f : Option Fault) × OutlineFault marks es f
-some_outline marks es = (first_told (outline_tell marks) [] 0 es, first_of_all (outline_tell marks) es)
+use Rattle.stab_units.specs.ObjectUnits.{AreUnits, UnitsFault}
+use Rattle.unit_outlines.proofs.Together.{one_fault, some_outline}
 
 differ : (f : Fault) → None ≡ Some f → ⊥
 differ f e = absurd cc
@@ -116,16 +107,16 @@ module _ (some_string : (text : List ℕ) → ((s : Symbol) × IsSpelling s text
   pub unit_not_both : (entries : List Named) (span : UnitSpan) (u : Unit) (f : Fault) → IsUnitOf entries span u → UnitFault entries span f → ⊥
   unit_not_both entries span u f a h = not_both (stabs_of entries span) a.items f a.read h
 
-  -- ---- all units
+  -- ---- units of spans
 
-  spans_some : (entries : List Named) (spans : List UnitSpan) → ((us : List Unit) × AreUnitsOf entries spans us) ⊎ ((f : Fault) × SpansFault entries spans f)
+  pub spans_some : (entries : List Named) (spans : List UnitSpan) → ((us : List Unit) × AreUnitsOf entries spans us) ⊎ ((f : Fault) × SpansFault entries spans f)
   spans_some entries [] = inl ([], tt)
   spans_some entries (s ∷ spans) = elim (some_unit entries s) [
     | inr f ↦ inr (f.0, inl f.1)
     | inl u ↦ elim (spans_some entries spans) [ inl more ↦ inl (u.0 ∷ more.0, (u.1, more.1)) | inr f ↦ inr (f.0, inr (u.0, u.1, f.1)) ]
   ]
 
-  spans_one : (entries : List Named) (spans : List UnitSpan) (us vs : List Unit) → AreUnitsOf entries spans us → AreUnitsOf entries spans vs → us ≡ vs
+  pub spans_one : (entries : List Named) (spans : List UnitSpan) (us vs : List Unit) → AreUnitsOf entries spans us → AreUnitsOf entries spans vs → us ≡ vs
   spans_one entries [] [] [] a b = refl
   spans_one entries [] [] (v ∷ vs) a b = absurd b
   spans_one entries [] (u ∷ us) vs a b = absurd a
@@ -133,17 +124,19 @@ module _ (some_string : (text : List ℕ) → ((s : Symbol) × IsSpelling s text
   spans_one entries (s ∷ spans) (u ∷ us) [] a b = absurd b
   spans_one entries (s ∷ spans) (u ∷ us) (v ∷ vs) a b = ap (λ (z : Unit). z ∷ us) (one_unit entries s u v a.0 b.0) ∙ ap (λ (z : List Unit). v ∷ z) (spans_one entries spans us vs a.1 b.1)
 
-  spans_fault_one : (entries : List Named) (spans : List UnitSpan) (f g : Fault) → SpansFault entries spans f → SpansFault entries spans g → f ≡ g
+  pub spans_fault_one : (entries : List Named) (spans : List UnitSpan) (f g : Fault) → SpansFault entries spans f → SpansFault entries spans g → f ≡ g
   spans_fault_one entries [] f g a b = absurd a
   spans_fault_one entries (s ∷ spans) f g a b = elim a [
     | inl x ↦ elim b [ inl y ↦ one_unit_fault entries s f g x y | inr y ↦ absurd (unit_not_both entries s y.0 f y.1 x) ]
     | inr x ↦ elim b [ inl y ↦ absurd (unit_not_both entries s x.0 g x.1 y) | inr y ↦ spans_fault_one entries spans f g x.2 y.2 ]
   ]
 
-  spans_not_both : (entries : List Named) (spans : List UnitSpan) (us : List Unit) (f : Fault) → AreUnitsOf entries spans us → SpansFault entries spans f → ⊥
+  pub spans_not_both : (entries : List Named) (spans : List UnitSpan) (us : List Unit) (f : Fault) → AreUnitsOf entries spans us → SpansFault entries spans f → ⊥
   spans_not_both entries [] us f a h = absurd h
   spans_not_both entries (s ∷ spans) [] f a h = absurd a
   spans_not_both entries (s ∷ spans) (u ∷ us) f a h = elim h [ inl x ↦ unit_not_both entries s u f a.0 x | inr x ↦ spans_not_both entries spans us f a.1 x.2 ]
+
+  -- ---- all units
 
   units_behind : (t : ℕ) (entries : List Named) (o : Option Fault) → OutlineFault Object entries o → ((us : List Unit) × AreUnits t entries us) ⊎ ((f : Fault) × UnitsFault t entries f)
   units_behind t entries (Some f) h = inr (f, inl h)

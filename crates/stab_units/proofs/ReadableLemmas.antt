@@ -7,24 +7,24 @@ use Rattle.st_base.specs.Stabs.{is_stab}
 use Rattle.stab_codes.specs.declared.code.TheConstants.{N_SO}
 use Rattle.stab_codes.specs.Table.{carries_symbol}
 use Rattle.nlist_codec.specs.declared.named.Named.{Named}
-use Rattle.stab_grammar.specs.declared.tree.Symbol.{Symbol}
+use Rattle.stab_symbols.specs.declared.tree.Symbol.{Symbol}
 use Rattle.stab_grammar.specs.StringFaults.{IsSpelling}
-use Rattle.stab_units.specs.declared.kinds.SourceMark.{SourceMark}
-use Rattle.stab_units.specs.declared.kinds.SourceMark.TheVariants.{Directory, Start, Stop, NoMark}
-use Rattle.stab_units.specs.declared.kinds.Link.TheVariants.{Ends}
-use Rattle.stab_units.specs.declared.outline_types.Marks.TheVariants.{Object}
-use Rattle.stab_units.specs.declared.outline_types.UnitSpan.{UnitSpan}
+use Rattle.unit_outlines.specs.declared.kinds.SourceMark.{SourceMark}
+use Rattle.unit_outlines.specs.declared.kinds.SourceMark.TheVariants.{Directory, Start, Stop, NoMark}
+use Rattle.unit_outlines.specs.declared.kinds.Link.TheVariants.{Ends}
+use Rattle.unit_outlines.specs.declared.outline_types.Marks.TheVariants.{Object}
+use Rattle.unit_outlines.specs.declared.outline_types.UnitSpan.{UnitSpan}
 use Rattle.stab_units.specs.declared.unit.ItemText.{ItemText}
 use Rattle.stab_units.specs.declared.unit.ItemText.TheVariants as texts
 use Rattle.stab_units.specs.declared.unit.Unit.{Unit}
-use Rattle.stab_units.specs.Words.{next, is_empty, ends_in}
-use Rattle.stab_units.specs.Runs.{same_kind, goes, continued, joined}
-use Rattle.stab_units.specs.Marks.{names_source, mark_at, in_unit, headers_in}
-use Rattle.stab_units.specs.Outlines.{span_at, span_step, units_from, directory_of, place_tell, outline_tell}
-use Rattle.stab_units.specs.Units.{Stab, Filed, is_plain, string_of, begun, stab_at, stabs_from, spells, IsTextOf, item_of, AreRead, unit_of, IsUnitOf, AreUnitsOf}
-use Rattle.stab_units.specs.Worlds.{AreUnits}
-use Rattle.stab_units.proofs.ForgetLemmas.{is_kind}
-use Rattle.stab_units.proofs.UntoldLemmas.{Untold, Unbroken, fault-untold, untold-fault, told-quiet, untold-unbroken, untold-append, joined-more}
+use Rattle.unit_outlines.specs.EntryWords.{next, is_empty, ends_in}
+use Rattle.unit_outlines.specs.Runs.{same_kind, goes, continued, joined}
+use Rattle.unit_outlines.specs.Marks.{names_source, mark_at, in_unit, headers_in, is_plain}
+use Rattle.unit_outlines.specs.Outlines.{span_at, span_step, units_from, directory_of, place_tell, outline_tell}
+use Rattle.stab_units.specs.Units.{Stab, Filed, string_of, begun, stab_at, stabs_from, spells, IsTextOf, item_of, AreRead, unit_of, IsUnitOf, AreUnitsOf}
+use Rattle.stab_units.specs.ObjectUnits.{AreUnits}
+use Rattle.unit_outlines.proofs.EntryKinds.{is_kind}
+use Rattle.unit_outlines.proofs.UntoldLemmas.{Untold, Unbroken, fault-untold, untold-fault, told-quiet, untold-unbroken, untold-append, joined-more}
 
 -- ---- lists that can be read
 

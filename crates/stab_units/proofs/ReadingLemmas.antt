@@ -6,20 +6,20 @@ use Rattle.st_base.specs.declared.fault.Fault.{Fault}
 use Rattle.stab_codes.specs.declared.code.TheConstants.{N_SO}
 use Rattle.stab_codes.specs.Table.{carries_symbol}
 use Rattle.nlist_codec.specs.declared.named.Named.{Named}
-use Rattle.stab_grammar.specs.declared.tree.Symbol.{Symbol}
-use Rattle.stab_units.specs.declared.outline_types.UnitSpan.{UnitSpan}
+use Rattle.stab_symbols.specs.declared.tree.Symbol.{Symbol}
+use Rattle.unit_outlines.specs.declared.outline_types.UnitSpan.{UnitSpan}
 use Rattle.stab_units.specs.declared.unit.ItemText.{ItemText}
 use Rattle.stab_units.specs.declared.unit.ItemText.TheVariants as texts
 use Rattle.stab_units.specs.declared.unit.Item.{Item}
 use Rattle.stab_units.specs.declared.unit.HeaderFile.{HeaderFile}
 use Rattle.stab_units.specs.declared.unit.Unit.{Unit}
 use Rattle.stab_units.specs.declared.reader.Reader.{Reader}
-use Rattle.stab_units.specs.Words.{next}
-use Rattle.stab_units.specs.Runs.{goes, link_at, continued}
-use Rattle.stab_units.specs.Marks.{file_in}
-use Rattle.stab_units.specs.Units.{Stab, Filed, is_plain, begun, stab_at, stabs_from, IsTextOf, string_of, item_of, HasFaultOf, AreRead, symbols_in, symbols_at, file_of, files_from, names_of, body_at, MakesUnit, FirstFault, parsed}
-use Rattle.stab_units.specs.Sweeps.{Nests}
-use Rattle.stab_units.specs.Walking.{with_symbol, with_text, with_items, goes_to, blank, HasTaken, HasRead, HasReadAll}
+use Rattle.unit_outlines.specs.EntryWords.{next}
+use Rattle.unit_outlines.specs.Runs.{goes, link_at, continued}
+use Rattle.unit_outlines.specs.Marks.{file_in, is_plain}
+use Rattle.stab_units.specs.Units.{Stab, Filed, begun, stab_at, stabs_from, IsTextOf, string_of, item_of, HasFaultOf, AreRead, symbols_in, symbols_at, file_of, files_from, names_of, body_at, MakesUnit, FirstFault, parsed}
+use Rattle.unit_outlines.specs.Sweeps.{Nests}
+use Rattle.stab_units.specs.ReadingWalk.{with_symbol, with_text, with_items, goes_to, blank, HasTaken, HasRead, HasReadAll}
 
 -- ---- files
 

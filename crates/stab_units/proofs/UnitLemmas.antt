@@ -1,42 +1,11 @@
--- Each span of an outline begins in its list; units in order, and the first fault among them.
+-- Units in order, and the first fault among them.
 use Rattle.std.proofs.Common.{◌≡◌, ℕ, zero, suc, ◌+◌, ◌<◌, inl, inr, Some, arith, refl, sym, ap, subst, ◌∙◌, List, [], ◌∷◌, ◌++◌, append-nil, append_assoc, slice_get, length}
-use Rattle.std.proofs.lemmas.Option.{same_Some}
 use Rattle.st_base.specs.declared.fault.Fault.{Fault}
 use Rattle.nlist_codec.specs.declared.named.Named.{Named}
-use Rattle.stab_units.specs.declared.kinds.SourceMark.{SourceMark}
-use Rattle.stab_units.specs.declared.kinds.SourceMark.TheVariants.{Directory, Start, Stop, NoMark}
-use Rattle.stab_units.specs.declared.outline_types.UnitSpan.{UnitSpan}
+use Rattle.unit_outlines.specs.declared.outline_types.UnitSpan.{UnitSpan}
 use Rattle.stab_units.specs.declared.unit.Unit.{Unit}
-use Rattle.stab_units.specs.Words.{next}
-use Rattle.stab_units.specs.Marks.{mark_at}
-use Rattle.stab_units.specs.Outlines.{span_step, span_at, directory_of, units_from, IsOutlined}
 use Rattle.stab_units.specs.Units.{stabs_of, parsed, parsed_in, IsUnitOf, AreUnitsOf, UnitFault, SpansFault}
-use Rattle.stab_units.specs.Walking.{HaveUnits}
-
--- ---- spans
-
-first_or_later : (span s : UnitSpan) (more : List UnitSpan) (k n : ℕ) → span.first < n → ((j : ℕ) → slice_get more j ≡ Some s → s.first < n) → slice_get (span ∷ more) k ≡ Some s → s.first < n
-first_or_later span s more zero n here later e = subst (λ (z : UnitSpan). z.first < n) (same_Some span s e) here
-first_or_later span s more (suc k) n here later e = later k e
-
-step_within : (m : SourceMark) (span s : UnitSpan) (more : List UnitSpan) (k n : ℕ) → span.first < n → ((j : ℕ) → slice_get more j ≡ Some s → s.first < n)
-    → slice_get (span_step m span more) k ≡ Some s → s.first < n
-step_within Directory span s more k n here later e = later k e
-step_within Start span s more k n here later e = first_or_later span s more k n here later e
-step_within Stop span s more k n here later e = later k e
-step_within NoMark span s more k n here later e = later k e
-
-spans_within : (t : ℕ) (d : List ℕ) (p : ℕ) (es : List Named) (k : ℕ) (s : UnitSpan) → slice_get (units_from t d p es) k ≡ Some s → s.first < p + length es
-spans_within t d p [] k s e = absurd cc
-spans_within t d p (x ∷ es) k s e =
-    step_within (mark_at x (next es)) (span_at t d p x es) s (units_from t (directory_of (mark_at x (next es)) x.name) (p + 1) es) k (p + length (x ∷ es)) (omega arith)
-    (λ j i. let h = spans_within t (directory_of (mark_at x (next es)) x.name) (p + 1) es j s i in omega arith) e
-
--- a span of an outline begins at an entry of the list
-pub outlined_within : (entries : List Named) (span : UnitSpan) → IsOutlined entries span → span.first < length entries
-outlined_within entries span o = let h = spans_within o.text_end [] 0 entries o.number span o.is in omega arith
-
--- ---- units in order
+use Rattle.stab_units.specs.ReadingWalk.{HaveUnits}
 
 units-append : (entries : List Named) (ss : List UnitSpan) (us : List Unit) (s : UnitSpan) (u : Unit) → AreUnitsOf entries ss us → IsUnitOf entries s u → AreUnitsOf entries (ss ++ s ∷ []) (us ++ u ∷ [])
 units-append entries [] [] s u a b = (b, tt)

@@ -5,12 +5,9 @@ use Rattle.std.specs.List.{AllByRecursion}
 use Rattle.st_base.specs.Stabs.{is_stab}
 use Rattle.stab_codes.specs.declared.code.TheConstants.{N_BINCL, N_EXCL, N_LSYM}
 use Rattle.nlist_codec.specs.declared.named.Named.{Named}
-use Rattle.stab_units.specs.declared.kinds.Nesting.{Nesting}
-use Rattle.stab_units.specs.declared.kinds.Nesting.TheVariants.{Opens, Closes, Parts, Other}
-use Rattle.stab_units.specs.declared.outline_types.HeaderMark.{HeaderMark}
-use Rattle.stab_units.specs.declared.outline_types.UnitSpan.{UnitSpan}
-use Rattle.stab_units.specs.Nests.{in_headers}
-use Rattle.stab_units.specs.Marks.{is_header}
+use Rattle.unit_outlines.specs.declared.outline_types.HeaderMark.{HeaderMark}
+use Rattle.unit_outlines.specs.declared.outline_types.UnitSpan.{UnitSpan}
+use Rattle.unit_outlines.specs.Marks.{is_header, all_headers, range_in}
 use Rattle.stab_units.specs.Units.{Stab, Filed, stabs_of, AreRead}
 
 -- what becomes of each header of a list, by its place; they are counted from 0, N_BINCL and N_EXCL alike, through all units
@@ -21,24 +18,6 @@ pub record Change : Type 0 where
   pub value : ℕ → ℕ
 
 -- ---- ranges
-
--- how many headers stand among entries, in any order
-abbrev pub all_headers : List Named → ℕ
-all_headers [] = 0
-all_headers (e ∷ es) = cond (is_header e.kind) (all_headers es + 1) (all_headers es)
-
-abbrev pub range_step : Nesting → ℕ → ℕ → (ℕ → Option ℕ) → Option ℕ
-range_step Opens zero place outer = Some place
-range_step Opens (suc ends) place outer = outer ends
-range_step Closes ends place outer = outer (suc ends)
-range_step Parts ends place outer = None
-range_step Other ends place outer = outer ends
-
--- the place of the header in whose range the entry behind these stands, nearest first, if it is in one; `ends` is how many N_EINCL are
--- met that close nothing met so far
-abbrev pub range_in : List Named → ℕ → Option ℕ
-range_in [] ends = None
-range_in (e ∷ back) ends = range_step (in_headers e) ends (all_headers back) (range_in back)
 
 -- the entries of this range stay; outside of all ranges they do
 abbrev pub is_kept_in : Change → Option ℕ → Bool

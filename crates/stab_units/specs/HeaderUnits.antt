@@ -2,9 +2,9 @@
 -- string. Places, values and the unit's own name are left out, so these units are the same where the list stands behind another one.
 use Rattle.std.specs.Prelude.{ℕ, Bool, List, map, filter, is_some}
 use Rattle.nlist_codec.specs.declared.named.Named.{Named}
-use Rattle.stab_units.specs.declared.outline_types.UnitSpan.{UnitSpan}
-use Rattle.stab_units.specs.Words.{next}
-use Rattle.stab_units.specs.Outlines.{units_of}
+use Rattle.unit_outlines.specs.declared.outline_types.UnitSpan.{UnitSpan}
+use Rattle.unit_outlines.specs.EntryWords.{next}
+use Rattle.unit_outlines.specs.Outlines.{units_of}
 use Rattle.stab_units.specs.Units.{Stab, header_name, stabs_of}
 
 -- a stab of a file

@@ -1,14 +1,6 @@
-pub mod Words
-pub mod Firsts
-pub mod Nests
-pub mod Counts
-pub mod Runs
-pub mod Marks
-pub mod Outlines
-pub mod Sweeps
 pub mod Units
-pub mod Worlds
-pub mod Walking
+pub mod ObjectUnits
+pub mod ReadingWalk
 pub mod Forgetting
 pub mod Joining
 pub mod Changing

@@ -2,24 +2,23 @@
 -- numbers its own files is that of binutils.
 use Rattle.std.specs.Prelude.{◌≡◌, ℕ, ◌+◌, ◌&&◌, ◌||◌, ◌==◌, ◌⊎◌, ⊤, not, Bool, true, false, cond, List, [], ◌∷◌, ◌++◌, drop, map, flat_map}
 use Rattle.st_base.specs.declared.fault.Fault.{Fault}
-use Rattle.st_base.specs.Stabs.{is_stab}
-use Rattle.stab_codes.specs.declared.code.TheConstants.{N_SO, N_BINCL, N_EINCL, N_EXCL}
+use Rattle.stab_codes.specs.declared.code.TheConstants.{N_SO}
 use Rattle.stab_codes.specs.Table.{carries_symbol}
 use Rattle.nlist_codec.specs.declared.named.Named.{Named}
-use Rattle.stab_grammar.specs.declared.tree.Symbol.{Symbol}
-use Rattle.stab_grammar.specs.declared.tree.Descriptor.{Descriptor}
-use Rattle.stab_grammar.specs.declared.tree.Descriptor.TheVariants as descriptors
+use Rattle.stab_symbols.specs.declared.tree.Symbol.{Symbol}
+use Rattle.stab_symbols.specs.declared.tree.Descriptor.{Descriptor}
+use Rattle.stab_symbols.specs.declared.tree.Descriptor.TheVariants as descriptors
 use Rattle.stab_grammar.specs.StringFaults.{IsSpelling, IsStringFault}
-use Rattle.stab_units.specs.declared.outline_types.HeaderMark.{HeaderMark}
-use Rattle.stab_units.specs.declared.outline_types.UnitSpan.{UnitSpan}
+use Rattle.unit_outlines.specs.declared.outline_types.HeaderMark.{HeaderMark}
+use Rattle.unit_outlines.specs.declared.outline_types.UnitSpan.{UnitSpan}
 use Rattle.stab_units.specs.declared.unit.ItemText.{ItemText}
 use Rattle.stab_units.specs.declared.unit.ItemText.TheVariants as texts
 use Rattle.stab_units.specs.declared.unit.Item.{Item}
 use Rattle.stab_units.specs.declared.unit.HeaderFile.{HeaderFile}
 use Rattle.stab_units.specs.declared.unit.Unit.{Unit}
-use Rattle.stab_units.specs.Words.{is_empty}
-use Rattle.stab_units.specs.Runs.{continued, joined}
-use Rattle.stab_units.specs.Marks.{file_in}
+use Rattle.unit_outlines.specs.EntryWords.{is_empty}
+use Rattle.unit_outlines.specs.Runs.{continued, joined}
+use Rattle.unit_outlines.specs.Marks.{is_plain, file_in}
 
 -- ---- the stabs of a unit
 
@@ -29,14 +28,6 @@ pub record Stab : Type 0 where
   pub place : ℕ
   pub file : ℕ
   pub string : List ℕ
-
--- N_BINCL, N_EINCL and N_EXCL mark headers
-abbrev pub is_header_mark : ℕ → Bool
-is_header_mark kind = (kind == N_BINCL) || ((kind == N_EINCL) || (kind == N_EXCL))
-
--- a stab that is no mark of a header
-abbrev pub is_plain : ℕ → Bool
-is_plain kind = is_stab kind && not (is_header_mark kind)
 
 -- the joined string of a stab that carries a symbol, else its name as it is
 abbrev pub string_of : Named → List Named → List ℕ

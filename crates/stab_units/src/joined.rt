@@ -1,14 +1,14 @@
 //! The joined string of a run of entries.
 
 ghost use Rattle.std.specs.Prelude.{◌≡◌, ◌<◌, ◌^◌, ◌∷◌, ◌++◌, length, IfOk, OnOk};
-ghost use Rattle.stab_units.specs.Runs.{joined};
+ghost use Rattle.unit_outlines.specs.Runs.{joined};
 ghost use Rattle.stab_units.specs.Units.{string_of};
 
-use crate::kinds::{Link, link_to, piece};
 use nlist_codec::Named;
 use st_base::{Memory, Text};
 use stab_codes::carries_symbol;
 use std::alloc::Global;
+use unit_outlines::{goes_on, piece};
 
 // Appends the joined string of the run that a list begins with.
 fn push_joined(text: &mut Text, rest: &[Named]) -> Result<(), Memory>
@@ -17,7 +17,7 @@ fn push_joined(text: &mut Text, rest: &[Named]) -> Result<(), Memory>
 {
     for (at, entry) in rest.iter().enumerate() {
         text.extend(piece(entry))?;
-        if link_to(entry, &rest[at + 1..]) != Link::Goes {
+        if !goes_on(entry, &rest[at + 1..]) {
             return Ok(());
         }
     }
@@ -30,7 +30,7 @@ fn run_string(alloc: Global, entry: &Named, behind: &[Named]) -> Result<Text, Me
     ensures { IfOk result (λ text. text ≡ joined (entry.now ∷ behind.now)) }
 {
     let mut text = Text::of(alloc, piece(entry))?;
-    if link_to(entry, behind) == Link::Goes {
+    if goes_on(entry, behind) {
         push_joined(&mut text, behind)?;
     }
     Ok(text)

@@ -1,29 +1,21 @@
-//! What the definitions of outlines and units say of any entries.
+//! What the definitions of units say of any entries.
 
 ghost use Rattle.std.specs.Prelude.{◌≡◌, ◌≤◌, ◌⊎◌, ◌++◌, ℕ, zero, List, [], None, Option, MatchOption, length, map};
 ghost use Rattle.st_base.specs.declared.fault.Fault.{Fault};
 ghost use Rattle.nlist_codec.specs.declared.named.Named.{Named};
-ghost use Rattle.stab_units.specs.declared.outline_types.Marks.{Marks};
-ghost use Rattle.stab_units.specs.declared.outline_types.Marks.TheVariants.{Image};
-ghost use Rattle.stab_units.specs.declared.outline_types.UnitSpan.{UnitSpan};
+ghost use Rattle.unit_outlines.specs.declared.outline_types.Marks.{Marks};
+ghost use Rattle.unit_outlines.specs.declared.outline_types.Marks.TheVariants.{Image};
+ghost use Rattle.unit_outlines.specs.declared.outline_types.UnitSpan.{UnitSpan};
 ghost use Rattle.stab_units.specs.declared.unit.Unit.{Unit};
-ghost use Rattle.stab_units.specs.Nests.{closing, in_blocks, in_headers};
-ghost use Rattle.stab_units.specs.Counts.{ClosesAt, NeverCloses};
-ghost use Rattle.stab_units.specs.Outlines.{OutlineFault, units_of};
-ghost use Rattle.stab_units.specs.Units.{IsUnitOf, UnitFault};
-ghost use Rattle.stab_units.specs.Worlds.{AreUnits, UnitsFault};
+ghost use Rattle.unit_outlines.specs.Outlines.{OutlineFault, units_of};
+ghost use Rattle.stab_units.specs.Units.{AreUnitsOf, IsUnitOf, SpansFault, UnitFault};
+ghost use Rattle.stab_units.specs.ObjectUnits.{AreUnits, UnitsFault};
 ghost use Rattle.stab_units.specs.Forgetting.{forgotten};
 ghost use Rattle.stab_units.specs.Joining.{AreAlike};
 ghost use Rattle.stab_units.specs.Changing.{Change, changed, LocalsGo, AreSpansChanged};
 ghost use Rattle.stab_units.specs.HeaderUnits.{header_units};
 
 use stab_grammar::one_symbol;
-
-/// A list of entries either has no fault of an outline, or exactly one that is told.
-pub fn one_outline()
-    ensures some { (marks : Marks) (entries : List Named) → (f : Option Fault) × OutlineFault marks entries f }
-    ensures one { (marks : Marks) (entries : List Named) (f g : Option Fault) → OutlineFault marks entries f → OutlineFault marks entries g → f ≡ g }
-{}
 
 /// A span is that of exactly one unit, or its strings have exactly one first fault.
 pub fn one_unit()
@@ -35,7 +27,17 @@ pub fn one_unit()
     one_symbol();
 }
 
-/// The entries of an object either are exactly one list of units, or have exactly one fault that is told.
+/// Spans are those of exactly one list of units, or their strings have exactly one first fault.
+pub fn one_spans()
+    ensures some { (entries : List Named) (spans : List UnitSpan) → ((units : List Unit) × AreUnitsOf entries spans units) ⊎ ((f : Fault) × SpansFault entries spans f) }
+    ensures one { (entries : List Named) (spans : List UnitSpan) (us vs : List Unit) → AreUnitsOf entries spans us → AreUnitsOf entries spans vs → us ≡ vs }
+    ensures one_fault { (entries : List Named) (spans : List UnitSpan) (f g : Fault) → SpansFault entries spans f → SpansFault entries spans g → f ≡ g }
+    ensures not_both { (entries : List Named) (spans : List UnitSpan) (units : List Unit) (f : Fault) → AreUnitsOf entries spans units → SpansFault entries spans f → ⊥ }
+{
+    one_symbol();
+}
+
+/// The entries of an object either are exactly one list of units, or have exactly one fault that is reported.
 pub fn one_units()
     ensures some { (text_end : ℕ) (entries : List Named) → ((units : List Unit) × AreUnits text_end entries units) ⊎ ((f : Fault) × UnitsFault text_end entries f) }
     ensures one { (text_end : ℕ) (entries : List Named) (us vs : List Unit) → AreUnits text_end entries us → AreUnits text_end entries vs → us ≡ vs }
@@ -50,21 +52,14 @@ pub fn few_units()
     ensures { (text_end : ℕ) (entries : List Named) (units : List Unit) → AreUnits text_end entries units → length units ≤ length entries }
 {}
 
-/// What closes a header range, and a block, is the first entry behind it up to which ends have caught up with begins, before the next
-/// N_SO; and nothing closes it where there is no such entry.
-pub fn closing_law()
-    ensures headers { (es : List Named) (more : ℕ) → MatchOption (closing in_headers es more) (NeverCloses in_headers es more) (ClosesAt in_headers es more) }
-    ensures blocks { (es : List Named) (more : ℕ) → MatchOption (closing in_blocks es more) (NeverCloses in_blocks es more) (ClosesAt in_blocks es more) }
-{}
-
-/// The value of an N_BINCL stands in no unit, and no fault tells it: lists of entries that differ in values of N_BINCL alone have the
+/// The value of an N_BINCL stands in no unit, and no fault hangs on it: lists of entries that differ in values of N_BINCL alone have the
 /// same units and the same faults.
 pub fn header_values_law()
     ensures units { (text_end : ℕ) (es fs : List Named) (units : List Unit) → map forgotten es ≡ map forgotten fs → AreUnits text_end es units → AreUnits text_end fs units }
     ensures faults { (text_end : ℕ) (es fs : List Named) (f : Fault) → map forgotten es ≡ map forgotten fs → UnitsFault text_end es f → UnitsFault text_end fs f }
 {}
 
-/// Lists of entries that each have units have units where one stands behind the other, and so have entries that are alike: a linker
+/// Lists of entries that each have units have units where one stands after the other, and so have entries that are alike: a linker
 /// gives them other values, and may give one that is no stab another kind that is none. Text may end anywhere. Outlines without a
 /// fault have none there; no entries have no units.
 ///
@@ -86,7 +81,7 @@ pub fn changed_law()
     ensures no_more { (c : Change) (entries : List Named) → length (changed c entries) ≤ length entries }
 {}
 
-/// The units of a list that have headers, as far as their headers go, are those of its parts where it is two lists one behind the other, and are
+/// The units of a list that have headers, as far as their headers go, are those of its parts where it is two lists one after the other, and are
 /// the same for entries that are alike. A unit without headers may become a directory, and entries that are no stabs belong to none.
 pub fn header_units_law()
     ensures joined { (marks : Marks) (end first second : ℕ) (es fs : List Named) → OutlineFault marks es None → OutlineFault marks fs None → header_units end (es ++ fs) ≡ header_units first es ++ header_units second fs }

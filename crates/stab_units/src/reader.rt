@@ -6,24 +6,24 @@ ghost use Rattle.st_base.specs.declared.fault.Refused.{Refused};
 ghost use Rattle.nlist_codec.specs.declared.named.Named.{Named as SomeNamed};
 ghost use Rattle.stab_codes.specs.Table as table;
 ghost use Rattle.stab_codes.specs.declared.code.TheConstants.{N_SO};
-ghost use Rattle.stab_units.specs.Words as words;
-ghost use Rattle.stab_units.specs.Words.{next};
-ghost use Rattle.stab_units.specs.Runs.{goes, link_at};
+ghost use Rattle.unit_outlines.specs.EntryWords as words;
+ghost use Rattle.unit_outlines.specs.EntryWords.{next};
+ghost use Rattle.unit_outlines.specs.Runs.{goes, link_at};
+ghost use Rattle.unit_outlines.specs.Marks as marks;
 ghost use Rattle.stab_units.specs.Units as spec;
 ghost use Rattle.stab_units.specs.Units.{FirstFault, HasFaultOf, IsTextOf, Stab, begun, body_at, item_of, parsed, spells, stabs_from, string_of};
-ghost use Rattle.stab_units.specs.Walking.{HasRead, HasTaken, blank, with_symbol, with_text};
+ghost use Rattle.stab_units.specs.ReadingWalk.{HasRead, HasTaken, blank, with_symbol, with_text};
 
-use crate::copy::copy_symbol;
 use crate::joined::stab_string;
-use crate::kinds::{Link, is_plain, link_to};
-use crate::nest::Nest;
+use crate::symbols::is_type;
 use crate::unit::{HeaderFile, Item, ItemText};
 use nlist_codec::Named;
 use st_base::{Fault, List, Memory, Refused, Steps, Text};
 use stab_codes::carries_symbol;
-use stab_grammar::{Descriptor, Symbol, parse};
+use stab_grammar::{Symbol, parse};
 use std::alloc::Global;
 use std::sync::ledger::Ledger;
+use unit_outlines::{Nest, goes_on, is_plain};
 
 /// What is kept of the entries that were read.
 #[derive(Debug, Drop)]
@@ -37,16 +37,6 @@ pub(crate) struct Reader {
 
 // ---- one stab
 
-// Whether the symbol names a type.
-fn is_type(descriptor: Descriptor) -> bool
-    ensures { result ≡ spec.is_type_symbol descriptor }
-{
-    match descriptor {
-        Descriptor::Typedef | Descriptor::Tag | Descriptor::TagTypedef => true,
-        _ => false,
-    }
-}
-
 fn is_empty(text: &Text) -> bool
     ensures { result ≡ words.is_empty text.now }
 {
@@ -55,22 +45,12 @@ fn is_empty(text: &Text) -> bool
 
 // Whether an entry begins a stab, where the one before it goes on with it or not.
 fn begins_stab(kind: u8, going: bool) -> bool
-    ensures { result ≡ spec.is_plain kind && not going }
+    ensures { result ≡ marks.is_plain kind && not going }
 {
     is_plain(kind) && !going
 }
 
-// Whether the string of an entry goes on with the next one.
-fn goes_on(entry: &Named, behind: &[Named]) -> bool
-    ensures { result ≡ goes (link_at entry.now (next behind.now)) }
-{
-    match link_to(entry, behind) {
-        Link::Goes => true,
-        _ => false,
-    }
-}
-
-// What the string of a stab is read as. A fault is told with the number of the stab's entry.
+// What the string of a stab is read as. A fault is reported with the number of the stab's entry.
 fn read_text<L: Ledger>(
     alloc: Global,
     carries: bool,
@@ -169,7 +149,7 @@ fn file_item(
             if is_type(symbol.descriptor) {
                 return push_symbol(alloc, files, file, symbol);
             }
-            push_symbol(alloc, files, file, copy_symbol(alloc, &symbol)?)?;
+            push_symbol(alloc, files, file, symbol.copy(alloc)?)?;
             ItemText::Symbol(symbol)
         }
     };

@@ -1,15 +1,13 @@
 ghost use Rattle.std.specs.Prelude.{◌≡◌, ◌+◌, ◌<◌, ◌^◌, ◌++◌, ◌∷◌, [], ℕ, List, Err, Some, length, map, slice_get, IfOk, OnOk};
 ghost use Rattle.st_base.specs.declared.fault.Fault.{Fault};
 ghost use Rattle.st_base.specs.declared.fault.Refused.{Refused};
-ghost use Rattle.stab_units.specs.declared.outline_types.UnitSpan.{UnitSpan as SomeSpan};
+ghost use Rattle.unit_outlines.specs.declared.outline_types.UnitSpan.{UnitSpan as SomeSpan};
 ghost use Rattle.stab_units.specs.declared.unit.Unit.{Unit as SomeUnit};
-ghost use Rattle.stab_units.specs.Outlines.{IsOutlined};
+ghost use Rattle.unit_outlines.specs.Outlines.{IsOutlined};
 ghost use Rattle.stab_units.specs.Units.{AreUnitsOf, FirstFault, IsUnitOf, MakesUnit, SpansFault, Stab, UnitFault, names_of, parsed, parsed_in, stabs_from, stabs_of};
-ghost use Rattle.stab_units.specs.Walking.{HasRead, HasReadAll, blank};
-ghost use Rattle.stab_units.specs.Worlds.{AreUnits, UnitsFault, strings_in};
+ghost use Rattle.stab_units.specs.ReadingWalk.{HasRead, HasReadAll, blank};
+ghost use Rattle.stab_units.specs.ObjectUnits.{AreUnits, UnitsFault, strings_in};
 
-use crate::outline_types::{Marks, UnitSpan};
-use crate::outlines::outline;
 use crate::reader::Reader;
 use crate::unit::{HeaderFile, Unit};
 use nlist_codec::Named;
@@ -17,6 +15,7 @@ use st_base::{Fault, List, Memory, Refused, Steps, Text};
 use stab_codes::N_SO;
 use std::alloc::Global;
 use std::sync::ledger::Ledger;
+use unit_outlines::{Marks, UnitSpan, outline};
 
 // ---- one unit
 

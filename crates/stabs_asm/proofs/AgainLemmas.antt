@@ -1,8 +1,8 @@
 -- What the text of an object assembles to.
-use Rattle.std.proofs.Common.{◌≡◌, ◌≤◌, ◌+◌, ℕ, List, [], ◌∷◌, ◌++◌, length, Option, None, Some, Result, refl, sym, ap, ◌∙◌, nat_le, true}
+use Rattle.std.proofs.Common.{◌≡◌, ◌+◌, ℕ, List, [], ◌∷◌, ◌++◌, length, Option, None, refl, ap, ◌∙◌}
 use Rattle.std.specs.List.{AllByRecursion}
 use Rattle.std.proofs.lemmas.Bool.{le-leb}
-use Rattle.st_base.specs.Faults.{Check, first_fault, checked, unless}
+use Rattle.st_base.specs.Faults.{Check, first_fault, unless}
 use Rattle.st_base.specs.declared.fault.Fault.{Fault}
 use Rattle.st_base.specs.declared.sizes.TheConstants.{GREATEST_ADDRESS}
 use Rattle.nlist_codec.specs.declared.named.Named.{Named}
@@ -10,9 +10,9 @@ use Rattle.nlist_codec.specs.declared.entry.Entry.{Entry}
 use Rattle.aout_object.specs.Making.{made, make_checks, kinds_checks, addresses_check, size_check}
 use Rattle.aout_object.specs.Objects.{Contents, ObjectFits, IsAccepted, all_named, named_of, file_of}
 use Rattle.aout_object.specs.declared.parts.Parts.{Parts}
-use Rattle.asm_objects.specs.Making.{object_by, object_of}
+use Rattle.asm_objects.specs.Making.{object_by}
 use Rattle.stabs_asm.specs.Assembling.{assembled}
-use Rattle.stabs_asm.specs.Listing.{HoldsBytes, IsListed, IsAssembledAgain}
+use Rattle.stabs_asm.specs.Listing.{HoldsBytes, IsAssembledAgain}
 use Rattle.stabs_asm.proofs.ReadBackLemmas.{is_listed}
 
 -- no entry of an object has a fault of its kind

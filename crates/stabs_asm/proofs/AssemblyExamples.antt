@@ -39,7 +39,7 @@ label_entries = refl
 
 -- ---- relocations
 
--- a name that is not defined is external, and its entry is behind all others; one of data names its segment
+-- a name that is not defined is external, and its entry is after all others; one of data names its segment
 names : List Statement
 names = statements (read_source (source (codes ".short d+1,x" ∷ codes ".data" ∷ codes "d: .stabn 68,0,5,d" ∷ [])))
 
@@ -70,7 +70,7 @@ undefined : first_fault_of (statements (read_source (source (codes ".byte 255" �
 unfolding statements source
 undefined = refl
 
--- a line of no form is told before all others
+-- a line that does not parse is reported before all others
 no_form : assembled Little (read_source (source (codes ".byte 256" ∷ codes ".bite 1" ∷ []))) ≡ Err (fault_at 70 2)
 unfolding source
 no_form = refl

@@ -20,7 +20,7 @@ use Rattle.stabs_asm.proofs.RowLemmas.{Listed, ListedFits, Row, numbered, byte_r
 
 -- ---- statements without their lines
 
--- the places behind a statement without its line
+-- the places after a statement without its line
 abbrev after_w : Places → What → Places
 after_w p w = record (moved p w) { number = p.number + 1 }
 

@@ -110,7 +110,7 @@ entry_read n f = by n.name refl
 
 -- ---- a row of bytes
 
--- the tokens of the bytes behind the first of a row
+-- the tokens of the bytes after the first of a row
 byte_tokens : List ℕ → List Token
 byte_tokens [] = []
 byte_tokens (b ∷ bs) = Mark 44 ∷ Word (hex_byte b) ∷ byte_tokens bs

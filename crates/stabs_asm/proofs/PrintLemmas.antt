@@ -21,7 +21,7 @@ cut_is (suc k) [] = record { front = refl; rows = refl }
 cut_is zero (b ∷ bs) = record { front = refl; rows = refl }
 cut_is (suc k) (b ∷ bs) = let c = cut_is k bs in record { front = ap (λ l. b ∷ l) c.front; rows = c.rows }
 
--- the first row of bytes, and the rows behind it
+-- the first row of bytes, and the rows after it
 pub rows_more : (b : ℕ) (more : List ℕ) → text_of (byte_lines (rows_of (b ∷ more))) ≡ (byte_line b (take 15 more) ++ 10 ∷ []) ++ text_of (byte_lines (rows_of (drop 15 more)))
 rows_more b more =
     let c = cut_is 15 more in

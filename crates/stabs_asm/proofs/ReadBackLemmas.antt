@@ -47,7 +47,7 @@ named_by false true bytes None are = tt
 named_by false true bytes (Some at) are = IsBytes-take at bytes are
 
 -- so is a name
-name_bytes : (strings : List ℕ) (strx : ℕ) → IsBytes strings → IsBytes (name_of (name_in strings strx))
+pub name_bytes : (strings : List ℕ) (strx : ℕ) → IsBytes strings → IsBytes (name_of (name_in strings strx))
 name_bytes strings strx are =
     named_by (strx == 0) (nat_le 4 strx && nat_lt strx (length strings)) (drop strx strings) (position is_zero (drop strx strings)) (IsBytes-drop strx strings are)
 

@@ -18,7 +18,8 @@ use Rattle.asm_statements.specs.declared.statement.Part.TheVariants as part
 use Rattle.asm_statements.specs.declared.statement.What.{What}
 use Rattle.asm_statements.specs.declared.statement.What.TheVariants as what
 use Rattle.asm_statements.specs.declared.statement.Statement.{Statement}
-use Rattle.stabs_asm.proofs.TokenLemmas.{Each, Each-append, IsWord, decimal_word, hex_byte_word, hex_word_word}
+use Rattle.asm_statements.proofs.ScanLemmas.{Each}
+use Rattle.stabs_asm.proofs.TokenLemmas.{Each-append, IsWord, decimal_word, hex_byte_word, hex_word_word}
 use Rattle.stabs_asm.proofs.ListLemmas.{NamedFits, stab_for, field_for, rel_for, entry_read, byte_read, machine_read, bsize_read, entry_word_read, rel_read, flags_small}
 
 -- what is listed of an object: its parts, and its entries with their names

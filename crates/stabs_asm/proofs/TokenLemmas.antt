@@ -2,7 +2,6 @@
 use Rattle.std.proofs.Common.{◌≡◌, ℕ, zero, suc, ◌+◌, ◌-◌, ◌*◌, ◌/◌, ◌%◌, ◌^◌, ◌<◌, ◌≤◌, Bool, true, false, List, [], ◌∷◌, ◌++◌, map, Option, None, Some, refl, ap, ◌∙◌, inl, inr, arith, append_assoc, min}
 use Rattle.std.specs.Prelude.{decimal, flat_map, nat_le, nat_lt, ◌||◌, ◌==◌}
 use Rattle.std.proofs.lemmas.Bool.{cases_Bool, le-leb, lt-leb, ltb-true, ltb-false, eqb-true, ne_eqb, and_from, or_parts, or_cases, or_left, or_right}
-use Rattle.std.proofs.lemmas.Bool.Decides.{nat_tests}
 use Rattle.std.proofs.lemmas.Fmt.{decimal_digit, decimal_by_steps}
 use Rattle.st_base.specs.Number.{IsBytes}
 use Rattle.st_base.specs.Numerals.{digit_worth, hex2, hex8}
@@ -11,59 +10,13 @@ use Rattle.asm_statements.specs.Tokens as tok
 use Rattle.asm_statements.specs.Tokens.{Token, in_word, is_digit, is_octal, is_blank, begins_word, with_token, glue, read_in, tokens, inside, put}
 use Rattle.asm_statements.specs.Tokens.Token.{Word, Str, Mark}
 use Rattle.asm_statements.specs.Operands.{value_on, number_of, digit_value, limit, ◌>>=◌}
+use Rattle.asm_statements.proofs.ScanLemmas.{Each, word_read}
 use Rattle.stabs_asm.specs.Listing.{escaped, hex_byte, hex_word}
-
--- all bytes pass a test
-abbrev pub Each : (ℕ → Bool) → List ℕ → Type 0
-Each test [] = Unit {0}
-Each test (b ∷ bs) = (test b ≡ true) × Each test bs
 
 -- both parts pass, so the whole does
 pub Each-append : (test : ℕ → Bool) (cs bs : List ℕ) → Each test cs → Each test bs → Each test (cs ++ bs)
 Each-append test [] bs p q = q
 Each-append test (c ∷ cs) bs p q = (p.0, Each-append test cs bs p.1 q)
-
--- ---- words
-
--- a byte of a word is no blank, no `"` and no `#`
-no_blank : (b : ℕ) → in_word b ≡ true → is_blank b ≡ false
-no_blank b h = grind (arith, nat_tests)
-
-no_quote : (b : ℕ) → in_word b ≡ true → (b == 34) ≡ false
-no_quote b h = grind (arith, nat_tests)
-
-no_hash : (b : ℕ) → in_word b ≡ true → (b == 35) ≡ false
-no_hash b h = grind (arith, nat_tests)
-
--- a byte before a word that goes on
-word_more : (b c : ℕ) (w : List ℕ) (ts : Option (List Token)) → glue b true (with_token (Word (c ∷ w)) ts) ≡ with_token (Word (b ∷ c ∷ w)) ts
-word_more b c w None = refl
-word_more b c w (Some ts) = refl
-
--- a byte that is a word alone
-word_last : (b : ℕ) (ts : Option (List Token)) → glue b false ts ≡ with_token (Word (b ∷ [])) ts
-word_last b None = refl
-word_last b (Some []) = refl
-word_last b (Some (Word w ∷ ts)) = refl
-word_last b (Some (Str s ∷ ts)) = refl
-word_last b (Some (Mark m ∷ ts)) = refl
-
--- a byte of a word is glued to what is read behind it
-word_step : (b : ℕ) (rest : List ℕ) → in_word b ≡ true → tokens (b ∷ rest) ≡ glue b (begins_word rest) (tokens rest)
-word_step b rest h = rw (no_quote b h, no_hash b h, no_blank b h, h) refl
-
--- the same where the rest is read so
-glue_more : (b c : ℕ) (w : List ℕ) (more : Bool) (read ts : Option (List Token)) → more ≡ true → read ≡ with_token (Word (c ∷ w)) ts → glue b more read ≡ with_token (Word (b ∷ c ∷ w)) ts
-glue_more b c w more read ts e f = rw (e, f) (word_more b c w ts)
-
-glue_last : (b : ℕ) (more : Bool) (ts : Option (List Token)) → more ≡ false → glue b more ts ≡ with_token (Word (b ∷ [])) ts
-glue_last b more ts e = rw e (word_last b ts)
-
--- a run of bytes of a word, behind which none stands, is one word
-pub word_read : (b : ℕ) (w rest : List ℕ) → in_word b ≡ true → Each in_word w → begins_word rest ≡ false → tokens (b ∷ (w ++ rest)) ≡ with_token (Word (b ∷ w)) (tokens rest)
-word_read b [] rest h each stops = word_step b rest h ∙ glue_last b (begins_word rest) (tokens rest) stops
-word_read b (c ∷ w) rest h each stops =
-    word_step b (c ∷ (w ++ rest)) h ∙ glue_more b c w (in_word c) (tokens (c ∷ (w ++ rest))) (tokens rest) each.0 (word_read c w rest each.0 each.1 stops)
 
 -- ---- strings
 
@@ -82,7 +35,7 @@ octal_read b rest h =
     let e : 8 * (8 * (48 + b / 64 - 48) + (48 + b / 8 % 8 - 48)) + (48 + b % 8 - 48) ≡ b = omega arith in
     rw (octal_digit (b / 64) (omega arith), octal_digit (b / 8 % 8) (omega arith), octal_digit (b % 8) (omega arith), e, le-leb b 255 (omega arith)) refl
 
--- `"` and `\` behind a `\` are themselves
+-- `"` and `\` after a `\` are themselves
 quote_read : (b : ℕ) (rest : List ℕ) → (b == 34 || b == 92) ≡ true → read_in inside (92 ∷ b ∷ rest) ≡ put b (read_in inside rest)
 quote_read b rest h =
     elim (or_cases (b == 34) (b == 92) h) [

@@ -31,7 +31,7 @@ escaped b =
     if b == 34 || b == 92 then 92 ∷ b ∷ []
     else (if is_within 32 126 b then b ∷ [] else 92 ∷ (48 + b / 64) ∷ (48 + b / 8 % 8) ∷ (48 + b % 8) ∷ [])
 
--- the bytes behind the first of a row
+-- the bytes after the first of a row
 abbrev pub bytes_on : List ℕ → List ℕ
 bytes_on [] = []
 bytes_on (b ∷ bs) = 44 ∷ (hex_byte b ++ bytes_on bs)
@@ -68,7 +68,7 @@ text_of (l ∷ ls) = l ++ (10 ∷ text_of ls)
 
 -- ---- the lines of an object
 
--- rows of at most 16 bytes, each by its first byte and the others: what is left of a row that has room for k more, and the rows behind it
+-- rows of at most 16 bytes, each by its first byte and the others: what is left of a row that has room for k more, and the rows after it
 abbrev pub cut_rows : ℕ → List ℕ → List ℕ × List (ℕ × List ℕ)
 cut_rows k [] = ([], [])
 cut_rows zero (b ∷ bs) = ([], (b, (cut_rows 15 bs).0) ∷ (cut_rows 15 bs).1)

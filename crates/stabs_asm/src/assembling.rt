@@ -10,7 +10,7 @@ use std::alloc::Global;
 
 /// Assembles a source to an object of this byte order.
 ///
-/// Refused with `LINE_SYNTAX` at the first line that is of no form. Where all lines are, refused at the first fault of a statement by
+/// Refused with `LINE_SYNTAX` at the first line that does not parse. Where all lines parse, refused at the first fault of a statement by
 /// line and number: `LINE_RANGE`, `LINE_UNDEFINED`, `LINE_TWICE` or `LINE_MIXED`; the place is the line, counted from 1. Where no
 /// statement has one, refused as making an object is: `TOO_LARGE` with place 4,294,967,295 where the end of bss passes that address,
 /// and with place 134,217,728 where the file would have more bytes. Nothing of an object's segments is made before both limits are

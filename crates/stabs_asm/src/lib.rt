@@ -9,11 +9,10 @@
 #![tactic(auto)]
 
 mod assembling;
-mod limits;
 mod printed;
 mod reading_back;
 
 pub use assembling::assemble;
-pub use limits::SOURCE_LIMIT;
 pub use printed::list;
 pub use reading_back::{listing_laws, object_holds_bytes, object_is_listed};
+pub use st_base::SOURCE_LIMIT;

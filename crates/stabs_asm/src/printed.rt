@@ -14,7 +14,7 @@ use st_base::{Memory, Text, put_hex2, put_hex8, put_number};
 use std::alloc::Global;
 use strtab::name_at;
 
-// How many bytes of a row stand behind its first.
+// How many bytes of a row stand after its first.
 const BEHIND_FIRST: usize = 15;
 
 fn put_hex_byte(out: &mut Text, byte: u8) -> Result<(), Memory>

@@ -1,4 +1,7 @@
+pub mod CallLemmas
 pub mod Decisions
 pub mod Promises
 pub mod HeadlineLemmas
+pub mod StoreLemmas
 mod PromiseExamples
+mod CallExamples

@@ -61,7 +61,7 @@ rose_of_puts (Some w) new before now bytes h = h.1
 
 module _ (old new : Option (List ℕ)) (before now : ℕ) (bytes : List ℕ) (status result : ℕ) where
   -- a status that is neither 7 nor 8 is the one that was to be answered, and all was printed
-  print_good : (p : Put) → Puts old new before now bytes p → result ≡ status_after status p → result ≢ WRITE_FAULT → result ≢ NO_MEMORY → Gained old new bytes × (result ≡ status)
+  pub print_good : (p : Put) → Puts old new before now bytes p → result ≡ status_after status p → result ≢ WRITE_FAULT → result ≢ NO_MEMORY → Gained old new bytes × (result ≡ status)
   print_good put.Done h e n7 n8 = (gained_of_puts old new before now bytes h, e)
   print_good put.Failed h e n7 n8 = absurd (n7 e)
   print_good put.Memory h e n7 n8 = absurd (n8 e)

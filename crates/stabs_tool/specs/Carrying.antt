@@ -1,6 +1,7 @@
 -- How an outcome is carried out: at most one store, and then one put. This is this project's own, and speaks of how the program
 -- works; what a run promises is said without it.
 use Rattle.std.specs.Prelude.{◌≡◌, ◌≤◌, ℕ, List, Option, Some, None}
+use Rattle.outside.specs.Calls.{Call, store_of, then_call}
 use Rattle.outside.specs.Causes.{Stores, Puts}
 use Rattle.outside.specs.declared.files.Stored.{Stored}
 use Rattle.outside.specs.declared.files.Stored.TheVariants as stored
@@ -27,6 +28,11 @@ abbrev pub Keeps : Option Content → FilesSeen → FilesSeen → Stored → Typ
 Keeps None f g s = (s ≡ stored.Done) × (g ≡ f)
 Keeps (Some content) f g s =
     Stores f.held g.held f.stores g.stores content.name content.bytes s × (f.stores ≤ g.stores) × (g.loads ≡ f.loads) × (g.last ≡ f.last)
+
+-- what is to be stored was called once, or nothing was called where nothing is to be stored
+abbrev pub CallsStore : Option Content → List Call → List Call → Type 0
+CallsStore None before after = after ≡ before
+CallsStore (Some content) before after = after ≡ then_call before (store_of content.name)
 
 -- what follows the store: the outcome's text and status, the line of a failed store, or nothing
 abbrev pub Follows : Outcome → Option (List ℕ) → Option (List ℕ) → ℕ → ℕ → ℕ → Stored → Type 0

@@ -8,8 +8,8 @@ use Rattle.std.specs.Prelude.{◌≡◌, ◌⊎◌, ℕ, List, Option, Some}
 use Rattle.std.specs.FinMap.{insert}
 use Rattle.outside.specs.Causes.{Contents, Rose}
 use Rattle.query_text.specs.declared.query.Query.{Query}
-use Rattle.aout_link.specs.declared.linking.Mode.{Mode}
-use Rattle.aout_link.specs.declared.linking.Mode.TheVariants.{Merge}
+use Rattle.bincl_match.specs.declared.mode.Mode.{Mode}
+use Rattle.bincl_match.specs.declared.mode.Mode.TheVariants.{Merge}
 use Rattle.command_line.specs.declared.command.Asked.TheVariants as asks
 use Rattle.command_line.specs.declared.command.Command.TheVariants as commands
 use Rattle.file_commands.specs.declared.outcome.TheConstants.{DONE, READ_FAULT, WRITE_FAULT, NO_MEMORY}

@@ -1,4 +1,5 @@
-//! The words of the command line, as bytes. What a runtime hands over is known to no clause.
+//! The words of the command line, as bytes. What a runtime hands over is known to no clause, since std's `Env` tells no words: the tests
+//! here have runtimes of their own.
 
 use st_base::{List, Memory, Text};
 use std::alloc::Global;
@@ -91,6 +92,89 @@ mod tests {
         fn var_at(&self, _i: usize, _buf: &mut [u8]) -> Result<usize, FillError> {
             Err(FillError::NotPresent)
         }
+    }
+
+    /// A runtime with the program's name and 2,000 words, each of which is its place in four digits; the last has 100,000 bytes.
+    struct Many;
+
+    const MANY: usize = 2000;
+
+    const HUGE: usize = 100_000;
+
+    /// The digit of a number at a power of ten.
+    fn digit(number: usize, power: usize) -> u8 {
+        b'0' + (number / power.max(1) % 10) as u8
+    }
+
+    /// The word of a place, in four digits.
+    fn numbered(at: usize) -> [u8; 4] {
+        [digit(at, 1000), digit(at, 100), digit(at, 10), digit(at, 1)]
+    }
+
+    /// Puts a word at the front of the room.
+    fn put(word: &[u8], buf: &mut [u8]) -> Result<usize, FillError> {
+        if buf.len() < word.len() {
+            return Err(FillError::TooLong);
+        }
+        buf[..word.len()].copy_from_slice(word);
+        Ok(word.len())
+    }
+
+    /// Puts the last word at the front of the room: 100,000 bytes.
+    fn put_huge(buf: &mut [u8]) -> Result<usize, FillError> {
+        if buf.len() < HUGE {
+            return Err(FillError::TooLong);
+        }
+        buf[..HUGE].fill(b'z');
+        Ok(HUGE)
+    }
+
+    impl Env for Many {
+        fn arg(&self, i: usize, buf: &mut [u8]) -> Result<usize, FillError> {
+            if i < MANY {
+                put(&numbered(i), buf)
+            } else if i == MANY {
+                put_huge(buf)
+            } else {
+                Err(FillError::NotPresent)
+            }
+        }
+
+        fn var(&self, _name: &str, _buf: &mut [u8]) -> Result<usize, FillError> {
+            Err(FillError::NotPresent)
+        }
+
+        fn var_at(&self, _i: usize, _buf: &mut [u8]) -> Result<usize, FillError> {
+            Err(FillError::NotPresent)
+        }
+    }
+
+    /// Whether the word at a place counted from 0 is the number of its argument.
+    fn is_numbered(words: &[Text], at: usize) -> bool {
+        match words.get(at) {
+            Some(word) => word.bytes() == numbered(at.wrapping_add(1)).as_slice(),
+            None => false,
+        }
+    }
+
+    /// Whether the word at a place has so many bytes, all of which are `z`.
+    fn is_huge(words: &[Text], at: usize) -> bool {
+        match words.get(at) {
+            Some(word) => word.bytes().len() == HUGE && word.bytes().iter().all(|b| *b == b'z'),
+            None => false,
+        }
+    }
+
+    #[test]
+    fn every_word_is_taken_however_many_and_long(rt: HostRuntime) -> Result<(), Fail> {
+        let words = words_of(rt.alloc(), &Many)?;
+        let words = words.items();
+        assert_eq!(rt; words.len(), MANY);
+        for at in [0, 1, 998, 999, 1021, 1022, 1023, 1024, 1997, 1998] {
+            assert!(rt; is_numbered(words, at), "word {at}");
+        }
+        assert!(rt; is_huge(words, MANY - 1));
+        Ok(())
     }
 
     #[test]

@@ -18,7 +18,7 @@ pub fn run_surely(
     files: &mut SureFiles,
     out: &mut SureSink,
 ) -> u8
-    ensures { (result ≡ NO_MEMORY) ⊎ IsDone (IsOutcome words.now) files.old (seen (Some files.new) 0 0 None) (Some out.old) (Some out.new) result }
+    ensures { (result ≡ NO_MEMORY) ⊎ IsDone (IsOutcome words.now) files.old.contents (seen (Some files.new.contents) 0 0 None) (Some out.old) (Some out.new) result }
 {
     run(alloc, words, files, out)
 }

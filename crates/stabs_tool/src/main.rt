@@ -5,11 +5,25 @@
 #![tactic(auto)]
 
 mod arguments;
+#[cfg(test)]
+mod as_rows;
+#[cfg(test)]
+mod ask_rows;
 mod carry;
+#[cfg(test)]
+mod check_rows;
 mod decide;
+#[cfg(test)]
+mod dump_rows;
+#[cfg(test)]
+mod image_rows;
 mod laws;
 #[cfg(test)]
-mod table;
+mod link_rows;
+#[cfg(test)]
+mod merge_rows;
+#[cfg(test)]
+mod query_rows;
 #[cfg(test)]
 mod tests;
 mod top;

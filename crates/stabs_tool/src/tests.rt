@@ -1,4 +1,5 @@
-//! Runs of the whole program, over files and a sink in memory: the rows of one table, and once the adapters over real files.
+//! Runs of the whole program, over files and a sink in memory: the rows of one table, which stands in a file for each command, and once the
+//! adapters over real files. What a row says of files holds for the rows after it too.
 //!
 //! A line of the table begins with its kind. `#` says what the row behind it is about, and is told where the row fails.
 //!
@@ -20,8 +21,10 @@
 //! - `ends STATUS`: the status, and the end of the row. `rows N`: so many rows there were.
 
 use crate::carry::carry_out;
-use crate::table::ROWS;
-use crate::{run, run_surely};
+use crate::{
+    as_rows, ask_rows, check_rows, dump_rows, image_rows, link_rows, merge_rows, query_rows, run,
+    run_surely,
+};
 use file_commands::{Content, Outcome};
 use outside::{DiskFiles, Files, Loaded, MemoryFiles, MemorySink, StreamSink, SureFiles, SureSink};
 use st_base::{List, Text};
@@ -508,13 +511,25 @@ impl Table {
     }
 }
 
+/// The rows of one file.
+fn all_lines(rt: &impl Abort, table: &mut Table, rows: &[u8]) -> Result<(), Fail> {
+    for line in rows.split(|b| *b == b'\n') {
+        table.line(rt, line)?;
+    }
+    Ok(())
+}
+
 #[test]
 fn rows(rt: HostRuntime) -> Result<(), Fail> {
     let mut table = Table::new(rt.alloc());
-    for line in ROWS.split(|b| *b == b'\n') {
-        table.line(&rt, line)?;
-    }
-    Ok(())
+    all_lines(&rt, &mut table, query_rows::ROWS)?;
+    all_lines(&rt, &mut table, image_rows::ROWS)?;
+    all_lines(&rt, &mut table, check_rows::ROWS)?;
+    all_lines(&rt, &mut table, dump_rows::ROWS)?;
+    all_lines(&rt, &mut table, as_rows::ROWS)?;
+    all_lines(&rt, &mut table, link_rows::ROWS)?;
+    all_lines(&rt, &mut table, ask_rows::ROWS)?;
+    all_lines(&rt, &mut table, merge_rows::ROWS)
 }
 
 #[test]

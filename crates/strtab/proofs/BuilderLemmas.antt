@@ -54,7 +54,7 @@ absent-new (entry ∷ entries) name e =
       | inr h ↦ rw h (absent-new entries name (rw h at e))
     ]
 
--- the offset that the map has of a name is behind the names before it
+-- the offset that the map has of a name is after the names before it
 found-offset : {A : Type 0} (entries : List (Vec ℕ A × ℕ)) (at : ℕ) (name : List ℕ) (strx : ℕ) → map (λ e. e.1) entries ≡ offsets_from at (names_in entries)
     → found_in entries name ≡ Some strx → strx ≡ at + length (spelled (names_before (names_in entries) name))
 found-offset [] at name strx offsets e = absurd (none-some strx e)
@@ -71,7 +71,7 @@ found-offset (entry ∷ entries) at name strx offsets e =
           rw (names_before-later name entry.0.items (names_in entries) h) (simp length-append (omega arith))
     ]
 
--- the offset of one more name is behind all names
+-- the offset of one more name is after all names
 offsets_from-push : (at : ℕ) (names : List (List ℕ)) (name : List ℕ)
     → offsets_from at (names ++ name ∷ []) ≡ offsets_from at names ++ (at + length (spelled names)) ∷ []
 offsets_from-push at [] name = rw (add-zero at) refl

@@ -19,7 +19,7 @@ use Rattle.strtab.specs.Names.{spelled, size_of, table_of, names_before, offset_
 pub bytes_eq-itself : (name : List ℕ) → bytes_eq name name ≡ true
 bytes_eq-itself name = (bytes_eq-Decides name name).1 refl
 
--- names that are told equal are equal
+-- names that the test takes for equal are equal
 pub same_name : (name other : List ℕ) → bytes_eq name other ≡ true → name ≡ other
 same_name name other e = (bytes_eq-Decides name other).0 e
 
@@ -54,7 +54,7 @@ names_before-last name (first ∷ names) e =
       | inr h ↦ names_before-later name first (names ++ name ∷ []) h ∙ ap (λ (l : List (List ℕ)). first ∷ l) (names_before-last name names (rw h at e))
     ]
 
--- a name that is there stands right behind the names before it
+-- a name that is there stands right after the names before it
 pub split_at_name : (name : List ℕ) (names : List (List ℕ)) → list_any (bytes_eq name) names ≡ true
     → (rest : List (List ℕ)) × (names ≡ names_before names name ++ name ∷ rest)
 split_at_name name [] e = absurd (true≢false (sym e))
@@ -92,7 +92,7 @@ name_len name whole =
       | inr h ↦ let least = ltb-false (position_or_len is_zero name) (length name) h in omega arith
     ]
 
--- the first zero byte behind a name without one is the byte that ends it
+-- the first zero byte after a name without one is the byte that ends it
 position-ended : (name rest : List ℕ) → HasNoZero name → position is_zero (name ++ (0 ∷ rest)) ≡ Some (length name)
 position-ended name rest whole =
     let len = name_len name whole in
@@ -115,7 +115,7 @@ offset_of-filled names (b ∷ bytes) filled = refl
 
 -- ---- a name is found at its offset
 
--- behind four bytes and some more a list goes on with what follows them
+-- after four bytes and some more a list goes on with what follows them
 drop-behind : (word before after : List ℕ) → length word ≡ 4 → drop (4 + length before) (word ++ (before ++ after)) ≡ after
 drop-behind word before after four =
     let front : length (word ++ before) ≡ 4 + length before = simp length-append (rw four refl) in
@@ -128,7 +128,7 @@ name_in-read table strx above within =
     let read = and_from _ _ (le-leb 4 strx above) (lt-ltb strx (length table) within) in
     cond-false _ (Some []) _ named ∙ cond-true _ _ None read
 
--- behind any word of four bytes the name at the offset of a name is that name
+-- after any word of four bytes the name at the offset of a name is that name
 name_in-behind : (word : List ℕ) (names : List (List ℕ)) (name : List ℕ) → length word ≡ 4 → name ≢ [] → HasNoZero name
     → list_any (bytes_eq name) names ≡ true → name_in (word ++ spelled names) (offset_of names name) ≡ Some name
 name_in-behind word names name four filled whole there =

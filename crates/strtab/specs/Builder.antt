@@ -9,12 +9,12 @@ use Rattle.strtab.specs.Names.{spelled, AreNames}
 abbrev pub names_in : {A : Type 0} → List (Vec ℕ A × ℕ) → List (List ℕ)
 names_in entries = map (λ e. e.0.items) entries
 
--- the offsets of names that stand one behind the other, the first at `at`
+-- the offsets of names that stand one after the other, the first at `at`
 abbrev pub offsets_from : ℕ → List (List ℕ) → List ℕ
 offsets_from at [] = []
 offsets_from at (name ∷ names) = at ∷ offsets_from (at + (length name + 1)) names
 
--- the bytes are those of the entries' names behind four bytes, and each name has its offset
+-- the bytes are those of the entries' names after four bytes, and each name has its offset
 pub record IsIndexed {A : Type 0} (entries : List (Vec ℕ A × ℕ)) (bytes : List ℕ) : Type 0 where
   pub spells : bytes ≡ (0 ∷ 0 ∷ 0 ∷ 0 ∷ []) ++ spelled (names_in entries)
   pub offsets : map (λ e. e.1) entries ≡ offsets_from 4 (names_in entries)

@@ -1,8 +1,9 @@
 -- The string table of a list of distinct names: what its bytes are, where each name stands, and how a name is added.
 -- After a.out(5). That each distinct name stands once, in order of first use, is this project's own.
-use Rattle.std.specs.Prelude.{◌≡◌, ◌≢◌, ℕ, ◌+◌, ◌<◌, Bool, if◌then◌else◌, List, [], ◌∷◌, ◌++◌, length, fold, All, AllPairs, bytes_eq}
-use Rattle.std.specs.List.{list_any, before_first}
+use Rattle.std.specs.Prelude.{◌≡◌, ◌≢◌, ℕ, ◌+◌, ◌<◌, Bool, List, [], ◌∷◌, ◌++◌, length, fold, All, AllPairs, bytes_eq}
+use Rattle.std.specs.List.{before_first}
 use Rattle.st_base.specs.Faults.{fault_at}
+use Rattle.st_base.specs.FirstUses.{used}
 use Rattle.st_base.specs.Number.{bytes_of}
 use Rattle.st_base.specs.declared.fault.Refused.{Refused}
 use Rattle.st_base.specs.declared.fault.Refused.TheVariants as refused
@@ -27,7 +28,7 @@ table_of big names = bytes_of big 4 (size_of names) ++ spelled names
 abbrev pub names_before : List (List ℕ) → List ℕ → List (List ℕ)
 names_before names name = before_first (bytes_eq name) names
 
--- the offset of a name in the table: behind the word and the names before it; 0 for the empty name
+-- the offset of a name in the table: after the word and the names before it; 0 for the empty name
 abbrev pub offset_of : List (List ℕ) → List ℕ → ℕ
 offset_of names [] = 0
 offset_of names (b ∷ bytes) = size_of (names_before names (b ∷ bytes))
@@ -35,7 +36,7 @@ offset_of names (b ∷ bytes) = size_of (names_before names (b ∷ bytes))
 -- the names after one is used: a name that is there and the empty name change nothing, and a new name goes last
 abbrev pub added : List (List ℕ) → List ℕ → List (List ℕ)
 added names [] = names
-added names (b ∷ bytes) = if list_any (bytes_eq (b ∷ bytes)) names then names else names ++ (b ∷ bytes) ∷ []
+added names (b ∷ bytes) = used bytes_eq names (b ∷ bytes)
 
 -- the distinct names of a list of uses, in order of first use
 abbrev pub first_uses : List (List ℕ) → List (List ℕ)

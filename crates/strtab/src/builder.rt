@@ -23,7 +23,7 @@ pub struct Builder {
     alloc: Global,
     /// Each name, with its offset in the table.
     names: IndexMap<Vec<u8>, u32>,
-    /// The table so far, behind four zero bytes.
+    /// The table so far, after four zero bytes.
     table: Text,
 }
 

@@ -1,6 +1,10 @@
 ghost use Rattle.std.specs.Prelude.{◌≡◌, ◌≢◌, ◌<◌, ◌^◌, ◌++◌, Bool, List, ℕ, Some, All, AllPairs, Contains};
 ghost use Rattle.strtab.specs.StringTable.{name_in, HasNoZero, HasOwnLength};
-ghost use Rattle.strtab.specs.Names.{size_of, table_of, offset_of, first_uses, AreNames};
+ghost use Rattle.st_base.specs.Faults.{fault_at};
+ghost use Rattle.st_base.specs.declared.fault.Fault.{Fault};
+ghost use Rattle.st_base.specs.declared.fault.Refused.TheVariants as refused;
+ghost use Rattle.st_base.specs.declared.sizes.TheConstants.{WORD_SIZE, FILE_LIMIT};
+ghost use Rattle.strtab.specs.Names.{size_of, table_of, offset_of, first_uses, AreNames, RefusesSize};
 
 /// In the table of a list of names each is found at its offset, no two share one, and the table begins
 /// with its own length, as `check_table` wants it.
@@ -20,4 +24,12 @@ pub fn uses_are_found()
         → name_in (table_of big (first_uses uses)) (offset_of (first_uses uses) name) ≡ Some name }
     ensures stays { (uses later : List (List ℕ)) (name : List ℕ) → Contains uses name
         → offset_of (first_uses (uses ++ later)) name ≡ offset_of (first_uses uses) name }
+{}
+
+/// The bytes of the length word, and the most bytes of a table; a table is refused only past that limit, which is the fault's place.
+pub fn limits_are()
+    ensures word_size { WORD_SIZE ≡ 4 }
+    ensures limit { FILE_LIMIT ≡ 134217728 }
+    ensures refused { (size : ℕ) (why : Fault) → RefusesSize size (refused.At why)
+        → ((134217728 < size) × (why ≡ fault_at 94 134217728)) }
 {}

@@ -10,5 +10,5 @@ mod laws;
 mod table;
 
 pub use builder::Builder;
-pub use laws::{names_are_found, uses_are_found};
+pub use laws::{limits_are, names_are_found, uses_are_found};
 pub use table::{check_table, name_at};

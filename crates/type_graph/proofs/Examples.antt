@@ -2,19 +2,19 @@
 -- which entries are externals. After the examples of "The stabs debug format" on structures, and this project's own.
 use Rattle.std.proofs.Common.{◌≡◌, ℕ, zero, suc, List, [], ◌∷◌, refl, sym, ap, ◌∙◌, arith}
 use Rattle.std.specs.Prelude.{true, false, codes, Some, None, slice_get, flat_map, Contains}
-use Rattle.stab_grammar.specs.declared.tree.Num.{Num}
-use Rattle.stab_grammar.specs.declared.tree.Num.TheVariants.{Pair}
-use Rattle.stab_grammar.specs.declared.tree.Numeral.TheVariants.{Digits}
-use Rattle.stab_grammar.specs.declared.tree.Tag.TheVariants as tags
-use Rattle.stab_grammar.specs.declared.tree.Key.{Key}
-use Rattle.stab_grammar.specs.declared.tree.Field.{Field}
-use Rattle.stab_grammar.specs.declared.tree.TypeTree.{TypeTree}
-use Rattle.stab_grammar.specs.declared.tree.TypeTree.TheVariants.{Ref, Def, Pointer, Range, Struct, Cross}
-use Rattle.stab_grammar.specs.declared.tree.Descriptor.{Descriptor}
-use Rattle.stab_grammar.specs.declared.tree.Descriptor.TheVariants as descriptors
-use Rattle.stab_grammar.specs.declared.tree.Symbol.{Symbol}
-use Rattle.stab_grammar.proofs.DefinitionLemmas.{defined, definitions-Ref, definitions-Def, definitions-Pointer, definitions-Range, definitions-Struct, definitions-Cross, definitions-field, is_cross-Ref, is_cross-Pointer, is_cross-Range, is_cross-Struct, is_cross-Cross, outer-Ref, outer-Def}
-use Rattle.stab_grammar.proofs.SurfaceLemmas.{surface-Ref, surface-Def, surface-Pointer, surface-Range, surface-Struct, surface-Cross, surface-field}
+use Rattle.stab_symbols.specs.declared.tree.Num.{Num}
+use Rattle.stab_symbols.specs.declared.tree.Num.TheVariants.{Pair}
+use Rattle.stab_symbols.specs.declared.tree.Numeral.TheVariants.{Digits}
+use Rattle.stab_symbols.specs.declared.tree.Tag.TheVariants as tags
+use Rattle.stab_symbols.specs.declared.tree.Key.{Key}
+use Rattle.stab_symbols.specs.declared.tree.Field.{Field}
+use Rattle.stab_symbols.specs.declared.tree.TypeTree.{TypeTree}
+use Rattle.stab_symbols.specs.declared.tree.TypeTree.TheVariants.{Ref, Def, Pointer, Range, Struct, Cross}
+use Rattle.stab_symbols.specs.declared.tree.Descriptor.{Descriptor}
+use Rattle.stab_symbols.specs.declared.tree.Descriptor.TheVariants as descriptors
+use Rattle.stab_symbols.specs.declared.tree.Symbol.{Symbol}
+use Rattle.stab_symbols.proofs.DefinitionLemmas.{defined, definitions-Ref, definitions-Def, definitions-Pointer, definitions-Range, definitions-Struct, definitions-Cross, definitions-field, is_cross-Ref, is_cross-Pointer, is_cross-Range, is_cross-Struct, is_cross-Cross, outer-Ref, outer-Def}
+use Rattle.stab_symbols.proofs.SurfaceLemmas.{surface-Ref, surface-Def, surface-Pointer, surface-Range, surface-Struct, surface-Cross, surface-field}
 use Rattle.nlist_codec.specs.declared.named.Named.{Named}
 use Rattle.stab_units.specs.declared.unit.HeaderFile.{HeaderFile}
 use Rattle.stab_units.specs.declared.unit.Unit.{Unit}

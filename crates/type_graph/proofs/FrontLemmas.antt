@@ -4,7 +4,7 @@ use Rattle.std.specs.Prelude.{◌==◌, Some, None, slice_get}
 use Rattle.std.proofs.lemmas.Bool.{eqb-true}
 use Rattle.std.proofs.lemmas.Bool.Decides.{Decides-eqb}
 use Rattle.std.proofs.lemmas.Option.{slice_get-get_or}
-use Rattle.stab_grammar.specs.declared.tree.Symbol.{Symbol}
+use Rattle.stab_symbols.specs.declared.tree.Symbol.{Symbol}
 use Rattle.stab_units.specs.declared.unit.HeaderFile.{HeaderFile}
 use Rattle.type_graph.specs.Types.{symbols_in}
 

@@ -7,8 +7,8 @@ use Rattle.std.specs.Bool.{Decides}
 use Rattle.std.specs.Ordering.{is_eq, nat_cmp, ordering_then}
 use Rattle.std.specs.Cmp.{IsEquivalence, decided}
 use Rattle.std.proofs.lemmas.Bool.Decides.{Decides-eqb, Decides-and, Decides-like}
-use Rattle.stab_grammar.specs.declared.tree.Key.{Key}
-use Rattle.stab_grammar.specs.Surface.{same_key}
+use Rattle.stab_symbols.specs.declared.tree.Key.{Key}
+use Rattle.stab_symbols.specs.Surface.{same_key}
 
 -- a test answers yes or no
 pub which : (b : Bool) → (b ≡ true) ⊎ (b ≡ false)

@@ -1,4 +1,4 @@
--- Lists in which each key stands once: joining more keys to such a list puts the new ones behind it, and the list stays free of
+-- Lists in which each key stands once: joining more keys to such a list puts the new ones after it, and the list stays free of
 -- repeats.
 use Rattle.std.proofs.Common.{◌≡◌, ◌≤◌, length, arith, Bool, true, false, List, [], ◌∷◌, ◌++◌, refl, sym, ap, subst, ◌∙◌, cond, ◌⊎◌, inl, inr, ⊎_elim, append_assoc, append-nil}
 use Rattle.std.specs.Prelude.{◌||◌, Contains, Result, Ok, Err, OnOk, map}
@@ -8,11 +8,11 @@ use Rattle.std.proofs.lemmas.List.Folds.{list_any-append}
 use Rattle.std.proofs.lemmas.Map.Keys.{IsDistinct-push}
 use Rattle.std.proofs.lemmas.Map.Made.{is_member-Decides}
 use Rattle.st_base.specs.declared.fault.Memory.{Memory}
-use Rattle.stab_grammar.specs.declared.tree.Num.{Num}
-use Rattle.stab_grammar.specs.declared.tree.Key.{Key}
-use Rattle.stab_grammar.specs.Keys.{key_of}
-use Rattle.stab_grammar.specs.Walks.{Visited}
-use Rattle.stab_grammar.specs.Surface.{same_key, key_order}
+use Rattle.stab_symbols.specs.declared.tree.Num.{Num}
+use Rattle.stab_symbols.specs.declared.tree.Key.{Key}
+use Rattle.stab_symbols.specs.Keys.{key_of}
+use Rattle.stab_symbols.specs.TypeWalks.{Visited}
+use Rattle.stab_symbols.specs.Surface.{same_key, key_order}
 use Rattle.type_graph.specs.KeyLists.{has, added, joined, firsts, Adds}
 use Rattle.type_graph.proofs.KeyLemmas.{which, same_key-decides, same_key-laws, is_eq-keys}
 use Rattle.std.specs.BTreeMap.{is_at}
@@ -96,14 +96,14 @@ pub distinct-joined : (keys more : List Key) → IsDistinct same_key keys → Is
 distinct-joined keys [] apart = apart
 distinct-joined keys (new ∷ more) apart = distinct-joined (added keys new) more (distinct-added keys new apart)
 
--- ---- what is put behind the list
+-- ---- what is put after the list
 
 -- those of more keys that are new, each once
 abbrev pub new_in : List Key → List Key → List Key
 new_in keys [] = []
 new_in keys (key ∷ more) = cond (has keys key) (new_in keys more) (key ∷ new_in (keys ++ key ∷ []) more)
 
--- what is joined is the list, and behind it those that are new
+-- what is joined is the list, and after it those that are new
 pub joined-new : (keys more : List Key) → joined keys more ≡ keys ++ new_in keys more
 joined-new keys [] = sym (append-nil keys)
 joined-new keys (key ∷ more) = ⊎_elim

@@ -7,8 +7,8 @@ use Rattle.std.proofs.lemmas.Option.{slice_get_within, slice_get-get_or, get_or_
 use Rattle.std.proofs.lemmas.Grind.{flat_map-append}
 use Rattle.std.proofs.lemmas.Bool.{cases_lt}
 use Rattle.std.proofs.lemmas.Map.Keys.{apart_from_distinct, any_passes_from_place}
-use Rattle.stab_grammar.specs.declared.tree.Key.{Key}
-use Rattle.stab_grammar.specs.Surface.{same_key}
+use Rattle.stab_symbols.specs.declared.tree.Key.{Key}
+use Rattle.stab_symbols.specs.Surface.{same_key}
 use Rattle.stab_units.specs.declared.unit.Unit.{Unit}
 use Rattle.type_graph.specs.Listings.{IsListing, led_to}
 use Rattle.type_graph.specs.KeyLists.{has, firsts}

@@ -5,8 +5,8 @@ use Rattle.std.specs.List.{find}
 use Rattle.std.specs.Option.{option_or}
 use Rattle.std.proofs.lemmas.List.{drop_more}
 use Rattle.std.proofs.lemmas.List.Folds.{find-append}
-use Rattle.stab_grammar.specs.declared.tree.Key.{Key}
-use Rattle.stab_grammar.specs.declared.tree.Symbol.{Symbol}
+use Rattle.stab_symbols.specs.declared.tree.Key.{Key}
+use Rattle.stab_symbols.specs.declared.tree.Symbol.{Symbol}
 use Rattle.stab_units.specs.declared.unit.HeaderFile.{HeaderFile}
 use Rattle.type_graph.specs.Types.{is_name, symbols_of}
 use Rattle.type_graph.specs.Indexes.{named_in}
@@ -62,7 +62,7 @@ names-more files at f key before after within is so_far more = ⊎_elim
 
 -- ---- the first in files
 
--- the first in a file, or else the first in those behind it
+-- the first in a file, or else the first in those after it
 find-in_files : (test : Symbol → Bool) (files : List HeaderFile) (at : ℕ) (f : HeaderFile) → at < length files → f ≡ get_or files at f
     → find test (flat_map symbols_of (drop at files)) ≡ option_or (find test f.symbols) (find test (flat_map symbols_of (drop (at + 1) files)))
 find-in_files test files at f within is =

@@ -6,8 +6,8 @@ use Rattle.std.specs.List.{find}
 use Rattle.std.specs.Option.{option_or}
 use Rattle.std.proofs.lemmas.List.Folds.{find-append}
 use Rattle.std.proofs.lemmas.Grind.{flat_map-append}
-use Rattle.stab_grammar.specs.declared.tree.Key.{Key}
-use Rattle.stab_grammar.specs.Definitions.{Definition}
+use Rattle.stab_symbols.specs.declared.tree.Key.{Key}
+use Rattle.stab_symbols.specs.Definitions.{Definition}
 use Rattle.stab_units.specs.declared.unit.HeaderFile.{HeaderFile}
 use Rattle.stab_units.specs.declared.unit.Unit.{Unit}
 use Rattle.type_graph.specs.Types.{symbols_of, symbols_in, file_symbols, other_files, searched_for, symbol_definitions, definitions_of, definition_of, first_of, body_of, is_full, is_any}
@@ -40,7 +40,7 @@ module _ (own before behind : List Definition) where
       ap (λ (o : Option Definition). body_of (option_or o (find (is_any key) twice))) (find-again (is_full key))
       ∙ ap (λ (o : Option Definition). body_of (option_or (find (is_full key) once) o)) (find-again (is_any key))
 
--- ---- the files in front of one, that one, and those behind it
+-- ---- the files before one, that one, and those after it
 
 split : (files : List HeaderFile) (file : ℕ)
     → file_definitions files ≡ file_definitions (take file files) ++ (definitions_of (symbols_in (slice_get files file)) ++ file_definitions (drop (suc file) files))
@@ -51,7 +51,7 @@ split (f ∷ files) (suc file) =
     ap (λ (ds : List Definition). definitions_in_file f ++ ds) (split files file)
     ∙ sym (append_assoc (definitions_in_file f) (file_definitions (take file files)) (definitions_of (symbols_in (slice_get files file)) ++ file_definitions (drop (suc file) files)))
 
--- the definitions of all files are those in front of a file, its own, and those behind it
+-- the definitions of all files are those before a file, its own, and those after it
 pub all-split : (files : List HeaderFile) (file : ℕ)
     → file_definitions files ≡ file_definitions (take file files) ++ (definitions_of (symbols_in (slice_get files file)) ++ file_definitions (drop (file + 1) files))
 all-split files file = split files file

@@ -6,8 +6,8 @@ use Rattle.std.specs.Option.{option_map, option_or}
 use Rattle.std.specs.BTreeMap.{BTreeMap, get}
 use Rattle.std.proofs.lemmas.Bool.Decides.{nat_tests}
 use Rattle.std.proofs.lemmas.List.{take_more, length-take-le}
-use Rattle.stab_grammar.specs.declared.tree.Key.{Key}
-use Rattle.stab_grammar.specs.Surface.{ArePlaces, key_order, same_key}
+use Rattle.stab_symbols.specs.declared.tree.Key.{Key}
+use Rattle.stab_symbols.specs.Surface.{ArePlaces, key_order, same_key}
 
 -- ---- a place in a list and one item
 
@@ -50,7 +50,7 @@ module _ {A : Type 0} (test : A → Bool) where
   first_step true a c = refl
   first_step false a c = refl
 
-  -- and with one behind it
+  -- and with one after it
   pub position-push : (xs : List A) (x : A) → position test (xs ++ x ∷ []) ≡ option_or (position test xs) (cond (test x) (Some (length xs)) None)
   position-push [] x = position-cons x []
   position-push (y ∷ xs) x =

@@ -6,11 +6,11 @@ use Rattle.std.specs.List.{find}
 use Rattle.std.specs.Option.{option_copied, option_or}
 use Rattle.std.proofs.lemmas.List.{take_more, take-append-drop}
 use Rattle.std.proofs.lemmas.Grind.{flat_map-append}
-use Rattle.stab_grammar.specs.declared.tree.Key.{Key}
-use Rattle.stab_grammar.specs.declared.tree.TypeTree.{TypeTree}
-use Rattle.stab_grammar.specs.Definitions.{Definition, is_cross}
-use Rattle.stab_grammar.specs.Walks.{Visited}
-use Rattle.stab_grammar.specs.Surface.{same_key}
+use Rattle.stab_symbols.specs.declared.tree.Key.{Key}
+use Rattle.stab_symbols.specs.declared.tree.TypeTree.{TypeTree}
+use Rattle.stab_symbols.specs.Definitions.{Definition, is_cross}
+use Rattle.stab_symbols.specs.TypeWalks.{Visited}
+use Rattle.stab_symbols.specs.Surface.{same_key}
 use Rattle.type_graph.specs.declared.definitions.Search.{Search}
 use Rattle.type_graph.specs.declared.definitions.Settled.{Settled}
 use Rattle.type_graph.specs.Types.{first_of, body_of, is_full, is_any}

@@ -9,10 +9,10 @@ use Rattle.std.proofs.lemmas.Bool.{cases_lt}
 use Rattle.std.proofs.lemmas.Option.{slice_get_within, slice_get-get_or, get_or_from_slice_get}
 use Rattle.std.proofs.lemmas.Grind.{flat_map-append}
 use Rattle.std.proofs.lemmas.Map.Made.{length-le_from_is_member}
-use Rattle.stab_grammar.specs.declared.tree.Key.{Key}
-use Rattle.stab_grammar.specs.declared.tree.TypeTree.{TypeTree}
-use Rattle.stab_grammar.specs.Definitions.{Definition}
-use Rattle.stab_grammar.specs.Surface.{same_key, surface_of}
+use Rattle.stab_symbols.specs.declared.tree.Key.{Key}
+use Rattle.stab_symbols.specs.declared.tree.TypeTree.{TypeTree}
+use Rattle.stab_symbols.specs.Definitions.{Definition}
+use Rattle.stab_symbols.specs.Surface.{same_key, surface_of}
 use Rattle.stab_units.specs.declared.unit.Unit.{Unit}
 use Rattle.type_graph.specs.Types.{first_of, body_of, is_full, is_any, definitions_of, file_symbols}
 use Rattle.type_graph.specs.Searches.{file_definitions}
@@ -77,7 +77,7 @@ module _ (unit : Unit) (start : Key) (keys : List Key) (done : ℕ) (from : Key)
   step-within : done + 1 ≤ length (keys ++ new)
   step-within = omega (arith, below, length-append keys new)
 
-  -- a key behind the list is one that the key leads to
+  -- a key after the list is one that the key leads to
   step-behind : (place : ℕ) (key : Key) → (length keys ≤ place) × ((j : ℕ) × (slice_get new j ≡ Some key))
       → (earlier : ℕ) × (source : Key) × (earlier < place) × (slice_get (keys ++ new) earlier ≡ Some source) × Contains (led_to unit source) key
   step-behind place key behind = (

@@ -6,11 +6,11 @@ use Rattle.std.specs.List.{find}
 use Rattle.std.specs.BTreeMap.{BTreeMap, get}
 use Rattle.std.specs.Borrow.{Bor}
 use Rattle.st_base.specs.declared.fault.Memory.{Memory}
-use Rattle.stab_grammar.specs.declared.tree.Key.{Key}
-use Rattle.stab_grammar.specs.declared.tree.Symbol.{Symbol}
-use Rattle.stab_grammar.specs.declared.tree.TypeTree.{TypeTree}
-use Rattle.stab_grammar.specs.Definitions.{Definition}
-use Rattle.stab_grammar.specs.Surface.{key_order}
+use Rattle.stab_symbols.specs.declared.tree.Key.{Key}
+use Rattle.stab_symbols.specs.declared.tree.Symbol.{Symbol}
+use Rattle.stab_symbols.specs.declared.tree.TypeTree.{TypeTree}
+use Rattle.stab_symbols.specs.Definitions.{Definition}
+use Rattle.stab_symbols.specs.Surface.{key_order}
 use Rattle.stab_units.specs.declared.unit.Unit.{Unit}
 use Rattle.type_graph.specs.declared.indexing.Noting.{Noting}
 use Rattle.type_graph.specs.Searches.{noted_all}
@@ -32,7 +32,7 @@ pub record HasNoted (old : Noting) (ds : List Definition) (new : Noting) : Type 
   pub only : new.only ≡ old.only
   pub bodies : (key : Key) → body_in new.bodies key ≡ (if is_noted old.only key then noted_all key (body_in old.bodies key) ds else body_in old.bodies key)
 
--- noting a definition, unless memory runs out
+-- noting a definition, unless out of memory
 abbrev pub Notes : Noting → Definition → Noting → Result ⊤ Memory → Type 0
 Notes old d new result = OnOk result (HasNoted old (d ∷ []) new)
 

@@ -3,10 +3,10 @@ use Rattle.std.specs.Prelude.{◌≡◌, Bool, if◌then◌else◌, List, [], �
 use Rattle.std.specs.Set.{is_member}
 use Rattle.std.specs.BTreeSet.{BTreeSet, contains}
 use Rattle.st_base.specs.declared.fault.Memory.{Memory}
-use Rattle.stab_grammar.specs.declared.tree.Key.{Key}
-use Rattle.stab_grammar.specs.declared.tree.Num.{Num}
-use Rattle.stab_grammar.specs.Keys.{key_of}
-use Rattle.stab_grammar.specs.Surface.{same_key, key_order}
+use Rattle.stab_symbols.specs.declared.tree.Key.{Key}
+use Rattle.stab_symbols.specs.declared.tree.Num.{Num}
+use Rattle.stab_symbols.specs.Keys.{key_of}
+use Rattle.stab_symbols.specs.Surface.{same_key, key_order}
 
 -- the key stands in the list
 abbrev pub has : List Key → Key → Bool
@@ -25,7 +25,7 @@ joined keys (key ∷ more) = joined (added keys key) more
 abbrev pub firsts : List Key → List Key
 firsts keys = joined [] keys
 
--- adding the key of a number, unless memory runs out
+-- adding the key of a number, unless out of memory
 abbrev pub Adds : List Key → Num → List Key → Result (Unit {0}) Memory → Type 0
 Adds old num new result = OnOk result (new ≡ added old (key_of num))
 

@@ -1,9 +1,9 @@
 -- The listing of a key: the key itself and then every key that its definition leads to, each once. It is this project's own,
--- and is said by an equation on the list, which no work list stands behind.
+-- and is said by an equation on the list, without a work list.
 use Rattle.std.specs.Prelude.{◌≡◌, ◌<◌, ℕ, List, [], ◌∷◌, flat_map, Option, Some, None, slice_get, Contains}
-use Rattle.stab_grammar.specs.declared.tree.Key.{Key}
-use Rattle.stab_grammar.specs.declared.tree.TypeTree.{TypeTree}
-use Rattle.stab_grammar.specs.Surface.{surface_of}
+use Rattle.stab_symbols.specs.declared.tree.Key.{Key}
+use Rattle.stab_symbols.specs.declared.tree.TypeTree.{TypeTree}
+use Rattle.stab_symbols.specs.Surface.{surface_of}
 use Rattle.stab_units.specs.declared.unit.Unit.{Unit}
 use Rattle.type_graph.specs.KeyLists.{firsts}
 use Rattle.type_graph.specs.Types.{definition_of}

@@ -2,10 +2,10 @@
 -- This project's own.
 use Rattle.std.specs.Prelude.{◌≡◌, Bool, true, false, not, ◌&&◌, if◌then◌else◌, List, [], ◌∷◌, flat_map, Option, Some, None, Result, OnErr, ⊤}
 use Rattle.std.specs.Option.{option_copied}
-use Rattle.stab_grammar.specs.declared.tree.Key.{Key}
-use Rattle.stab_grammar.specs.declared.tree.TypeTree.{TypeTree}
-use Rattle.stab_grammar.specs.Definitions.{Definition, is_cross}
-use Rattle.stab_grammar.specs.Surface.{same_key}
+use Rattle.stab_symbols.specs.declared.tree.Key.{Key}
+use Rattle.stab_symbols.specs.declared.tree.TypeTree.{TypeTree}
+use Rattle.stab_symbols.specs.Definitions.{Definition, is_cross}
+use Rattle.stab_symbols.specs.Surface.{same_key}
 use Rattle.stab_units.specs.declared.unit.HeaderFile.{HeaderFile}
 use Rattle.type_graph.specs.declared.definitions.Search.{Search}
 use Rattle.type_graph.specs.declared.definitions.Settled.{Settled}

@@ -1,6 +1,6 @@
 -- The two sorts of names of types, by the descriptors of their symbols. After "The stabs debug format", on typedefs and tags.
 use Rattle.std.specs.Prelude.{Bool}
-use Rattle.stab_grammar.specs.declared.tree.Descriptor.{Descriptor}
+use Rattle.stab_symbols.specs.declared.tree.Descriptor.{Descriptor}
 use Rattle.type_graph.specs.declared.names.Sort.{Sort}
 use Rattle.type_graph.specs.declared.names.Sort.TheVariants as sorts
 use Rattle.type_graph.specs.Types.{is_tag_symbol, is_typedef_symbol}

@@ -1,16 +1,16 @@
 -- The externals of an entry list, which are the names that other objects see, with their values; and the world of an object: its
 -- units and its externals. After a.out(5), on `n_type` and N_EXT.
-use Rattle.std.specs.Prelude.{◌≡◌, ℕ, Bool, ◌||◌, ◌==◌, List, map}
+use Rattle.std.specs.Prelude.{◌≡◌, ℕ, Bool, List, map}
 use Rattle.std.specs.List.{filter}
+use Rattle.nlist_codec.specs.Kinds.{defines_name}
 use Rattle.nlist_codec.specs.declared.named.Named.{Named}
-use Rattle.stab_units.specs.Worlds.{AreUnits}
+use Rattle.stab_units.specs.ObjectUnits.{AreUnits}
 use Rattle.type_graph.specs.declared.world.External.{External}
 use Rattle.type_graph.specs.declared.world.World.{World}
-use Rattle.type_graph.specs.declared.world.TheConstants.{EXTERNAL_ABSOLUTE, EXTERNAL_TEXT, EXTERNAL_DATA, EXTERNAL_BSS}
 
 -- the entry is external, and its value is a number, or an address of a segment
 abbrev pub is_external : Named → Bool
-is_external entry = entry.kind == EXTERNAL_ABSOLUTE || entry.kind == EXTERNAL_TEXT || entry.kind == EXTERNAL_DATA || entry.kind == EXTERNAL_BSS
+is_external entry = defines_name entry.kind
 
 -- its name and value
 abbrev pub external_of : Named → External

@@ -1,7 +1,7 @@
 //! The maps of a unit by key: of the definitions, and of the symbols that name types.
 
 ghost use Rattle.std.specs.Prelude.{◌≡◌, [], ◌∷◌, slice_get, IfOk, OnOk};
-ghost use Rattle.stab_grammar.specs.declared.tree.Key.{Key as KeyValue};
+ghost use Rattle.stab_symbols.specs.declared.tree.Key.{Key as KeyValue};
 ghost use Rattle.type_graph.specs.Indexes as spec;
 ghost use Rattle.type_graph.specs.Indexes.{HasDefinitions, HasNames, HasNoted, body_in, named_in, symbol_in};
 ghost use Rattle.type_graph.specs.Searches.{file_definitions, noted, noted_all};
@@ -92,7 +92,7 @@ fn note_all<'a>(files: &'a [HeaderFile], noting: &mut Noting<'a>) -> Result<(), 
     Ok(())
 }
 
-/// The definitions of a unit by key, each as `definition` finds it. Refused only where memory runs out.
+/// The definitions of a unit by key, each as `definition` finds it. Refused only when out of memory.
 pub fn definitions<'a>(alloc: Global, unit: &'a Unit) -> Result<BTreeMap<Key, &'a TypeTree>, Memory>
     ensures { IfOk result (HasDefinitions unit.now) }
 {
@@ -145,7 +145,7 @@ fn note_names<'a>(
     Ok(())
 }
 
-/// The symbols of a unit that name types, by key, each as `type_name` finds it. Refused only where memory runs out.
+/// The symbols of a unit that name types, by key, each as `type_name` finds it. Refused only when out of memory.
 pub fn names<'a>(alloc: Global, unit: &'a Unit) -> Result<BTreeMap<Key, &'a Symbol>, Memory>
     ensures { IfOk result (HasNames unit.now) }
 {

@@ -1,7 +1,7 @@
 ghost use Rattle.std.specs.Prelude.{◌≡◌, if◌then◌else◌, IfOk, OnOk, Some, None};
 ghost use Rattle.std.specs.BTreeMap.{get};
-ghost use Rattle.stab_grammar.specs.declared.tree.Key.{Key as KeyValue};
-ghost use Rattle.stab_grammar.specs.Surface.{ArePlaces, key_order, same_key};
+ghost use Rattle.stab_symbols.specs.declared.tree.Key.{Key as KeyValue};
+ghost use Rattle.stab_symbols.specs.Surface.{ArePlaces, key_order, same_key};
 ghost use Rattle.std.specs.Option.{option_or};
 
 use st_base::Memory;

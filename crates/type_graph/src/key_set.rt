@@ -16,7 +16,7 @@ pub struct KeySet {
 
 impl Model for KeySet {
     ghost use Rattle.std.specs.Prelude.{List};
-    ghost use Rattle.stab_grammar.specs.declared.tree.Key.{Key};
+    ghost use Rattle.stab_symbols.specs.declared.tree.Key.{Key};
     ghost use Rattle.type_graph.specs.KeyLists.{SameKeys};
 
     ghost Value = { List Key };

@@ -19,5 +19,6 @@ pub use definitions::definition;
 pub use key_places::places;
 pub use listings::{KeyList, a_listing, listed, listing, one_listing};
 pub use names::{find_tag, find_typedef, type_name};
+pub use symbols::file_symbols;
 pub use type_index::TypeIndex;
 pub use world::{External, World, externals, world_of};

@@ -1,6 +1,6 @@
 ghost use Rattle.std.specs.Prelude.{◌≡◌, IfOk, List, OnOk};
 ghost use Rattle.std.specs.Option.{option_copied};
-ghost use Rattle.stab_grammar.specs.declared.tree.Key.{Key};
+ghost use Rattle.stab_symbols.specs.declared.tree.Key.{Key};
 ghost use Rattle.stab_units.specs.declared.unit.Unit.{Unit};
 ghost use Rattle.type_graph.specs.KeyLists.{joined};
 ghost use Rattle.type_graph.specs.Listings.{IsListing, surface_keys};
@@ -28,7 +28,7 @@ fn add_body(found: &mut KeySet, body: Option<&TypeTree>) -> Result<(), Memory>
     }
 }
 
-/// The listing of a key in a unit that is indexed. Refused only where memory runs out.
+/// The listing of a key in a unit that is indexed. Refused only when out of memory.
 pub fn listed(alloc: Global, index: &TypeIndex<'_>, key: Key) -> Result<KeyList, Memory>
     ensures { IfOk result (λ l. IsListing index.now key l.keys) }
 {
@@ -45,10 +45,10 @@ pub fn listed(alloc: Global, index: &TypeIndex<'_>, key: Key) -> Result<KeyList,
     })
 }
 
-/// The listing of a key: the key, and behind it every key on the surface of the definition of an earlier one, each once, in the
+/// The listing of a key: the key, and then every key on the surface of the definition of an earlier one, each once, in the
 /// order in which they are met. A key without a definition is listed, and leads to none.
 ///
-/// Refused only where memory runs out. The listing is this project's own.
+/// Refused only when out of memory. The listing is this project's own.
 pub fn listing(alloc: Global, unit: &Unit, key: Key) -> Result<KeyList, Memory>
     ensures { IfOk result (λ l. IsListing unit.now key l.keys) }
 {

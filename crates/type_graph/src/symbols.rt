@@ -1,7 +1,7 @@
 //! The symbols of a file, and what a symbol says of a type: which number it names, and by what sort of name.
 
 ghost use Rattle.std.specs.Prelude.{◌≡◌};
-ghost use Rattle.stab_grammar.specs.Definitions as grammar;
+ghost use Rattle.stab_symbols.specs.Definitions as grammar;
 ghost use Rattle.stab_units.specs.Units as units;
 ghost use Rattle.type_graph.specs.Types as spec;
 

@@ -20,7 +20,7 @@ pub struct TypeIndex<'a> {
 
 impl<'a> Model for TypeIndex<'a> {
     ghost use Rattle.std.specs.Coded.{codes};
-    ghost use Rattle.stab_grammar.specs.contracts.tree.TypeTree as tree;
+    ghost use Rattle.stab_symbols.specs.contracts.tree.TypeTree as tree;
     ghost use Rattle.stab_units.specs.declared.unit.Unit.{Unit};
     ghost use Rattle.type_graph.specs.Indexes.{HasDefinitions, HasNames};
 
@@ -34,7 +34,7 @@ impl<'a> Model for TypeIndex<'a> {
 }
 
 impl<'a> TypeIndex<'a> {
-    /// The index of a unit. Takes memory for each key that is defined or named in it, and is refused only where that runs out.
+    /// The index of a unit. Takes memory for each key that is defined or named in it, and is refused only when out of memory.
     pub fn new(alloc: Global, unit: &'a Unit) -> Result<TypeIndex<'a>, Memory>
         ensures { IfOk result (λ index. index ≡ unit.now) }
     {

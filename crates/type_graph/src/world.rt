@@ -1,22 +1,13 @@
 ghost use Rattle.std.specs.Prelude.{◌≡◌, ◌+◌, ◌<◌, ◌^◌, length, Err, IfOk};
 ghost use Rattle.st_base.specs.declared.fault.Fault.{Fault};
-ghost use Rattle.stab_units.specs.Worlds.{UnitsFault, strings_in};
+ghost use Rattle.stab_units.specs.ObjectUnits.{UnitsFault, strings_in};
 ghost use Rattle.type_graph.specs.Worlds as spec;
 
-use nlist_codec::Named;
+use nlist_codec::{Named, defines_name};
 use st_base::{List, Memory, Refused, Steps, Text};
 use stab_units::{Unit, units};
 use std::alloc::Global;
 use std::sync::ledger::Ledger;
-
-/// The kind of an external entry whose value is no address: N_ABS with N_EXT.
-pub const EXTERNAL_ABSOLUTE: u8 = 3;
-/// The kind of an external entry of the text segment: N_TEXT with N_EXT.
-pub const EXTERNAL_TEXT: u8 = 5;
-/// The kind of an external entry of the data segment: N_DATA with N_EXT.
-pub const EXTERNAL_DATA: u8 = 7;
-/// The kind of an external entry of the bss segment: N_BSS with N_EXT.
-pub const EXTERNAL_BSS: u8 = 9;
 
 /// A name that other objects see, and its value.
 #[derive(Debug, Drop)]
@@ -35,10 +26,7 @@ pub struct World {
 fn is_external(entry: &Named) -> bool
     ensures { result ≡ spec.is_external entry.now }
 {
-    matches!(
-        entry.kind,
-        EXTERNAL_ABSOLUTE | EXTERNAL_TEXT | EXTERNAL_DATA | EXTERNAL_BSS
-    )
+    defines_name(entry.kind)
 }
 
 fn external_of(alloc: Global, entry: &Named) -> Result<External, Memory>
@@ -52,7 +40,7 @@ fn external_of(alloc: Global, entry: &Named) -> Result<External, Memory>
 
 /// The externals of an entry list in order: the entries of kind 3, 5, 7 or 9, each with its name and its value.
 ///
-/// Refused only where memory runs out. After a.out(5), on `n_type` and N_EXT.
+/// Refused only when out of memory. After a.out(5), on `n_type` and N_EXT.
 pub fn externals(alloc: Global, entries: &List<Named>) -> Result<List<External>, Memory>
     ensures { IfOk result (λ externals. externals ≡ spec.externals_of entries.now) }
 {

@@ -4,18 +4,18 @@ use Rattle.st_base.specs.declared.fault.TheConstants.{NO_HEADER, AMBIGUOUS}
 use Rattle.st_base.specs.Faults.{fault_at}
 use Rattle.stab_codes.specs.declared.code.TheConstants.{N_SO, N_BINCL, N_EINCL, N_EXCL}
 use Rattle.nlist_codec.specs.declared.named.Named.{Named}
-use Rattle.stab_grammar.specs.declared.tree.Num.TheVariants.{Pair}
-use Rattle.stab_grammar.specs.declared.tree.Field.{Field, roll-Field}
-use Rattle.stab_grammar.specs.declared.tree.Descriptor.TheVariants as descriptors
-use Rattle.stab_grammar.specs.declared.tree.Symbol.{Symbol}
-use Rattle.stab_grammar.specs.declared.tree.TypeTree.{TypeTree}
-use Rattle.stab_grammar.specs.declared.tree.TypeTree.TheVariants.{Ref, rolls-Ref}
-use Rattle.stab_grammar.specs.declared.tree.TypeTree.TheOpen.{TypeTree-F}
-use Rattle.stab_grammar.specs.declared.tree.TypeTree.TheFolds.{fold-roll-TypeTree}
-use Rattle.stab_grammar.specs.Files.{with_step, tree_with, with_files}
+use Rattle.stab_symbols.specs.declared.tree.Num.TheVariants.{Pair}
+use Rattle.stab_symbols.specs.declared.tree.Field.{Field, roll-Field}
+use Rattle.stab_symbols.specs.declared.tree.Descriptor.TheVariants as descriptors
+use Rattle.stab_symbols.specs.declared.tree.Symbol.{Symbol}
+use Rattle.stab_symbols.specs.declared.tree.TypeTree.{TypeTree}
+use Rattle.stab_symbols.specs.declared.tree.TypeTree.TheVariants.{Ref, rolls-Ref}
+use Rattle.stab_symbols.specs.declared.tree.TypeTree.TheOpen.{TypeTree-F}
+use Rattle.stab_symbols.specs.declared.tree.TypeTree.TheFolds.{fold-roll-TypeTree}
+use Rattle.stab_symbols.specs.Files.{with_step, tree_with, with_files}
 use Rattle.stab_units.specs.declared.unit.HeaderFile.{HeaderFile}
 use Rattle.stab_units.specs.declared.unit.Unit.{Unit}
-use Rattle.stab_units.specs.Outlines.{units_of}
+use Rattle.unit_outlines.specs.Outlines.{units_of}
 use Rattle.unit_index.specs.declared.owner.Owner.{Owner}
 use Rattle.unit_index.specs.Owners.{rows_of, owners_of, index_fault, new_number}
 use Rattle.unit_index.specs.Expanding.{expanded}
@@ -27,7 +27,7 @@ en kind name value = record { kind = kind; other = 0; desc = 0; value = value; n
 abbrev own : ℕ → ℕ → ℕ → ℕ → Owner
 own unit file owner_unit owner_file = record { unit = unit; file = file; owner_unit = owner_unit; owner_file = owner_file }
 
--- `a` includes `h` with 7 and `x` with 0; `b` includes `g` with 3, and behind it these
+-- `a` includes `h` with 7 and `x` with 0; `b` includes `g` with 3, and then these
 abbrev image : List Named → List Named
 image more = en N_SO (97 ∷ []) 0 ∷ en N_BINCL (104 ∷ []) 7 ∷ en N_EINCL [] 0 ∷ en N_BINCL (120 ∷ []) 0 ∷ en N_EINCL [] 0
     ∷ en N_SO (98 ∷ []) 16 ∷ en N_BINCL (103 ∷ []) 3 ∷ en N_EINCL [] 0 ∷ more

@@ -3,34 +3,26 @@ use Rattle.std.proofs.Common.{◌≡◌, ℕ, zero, suc, ◌+◌, Bool, true, fa
 use Rattle.std.specs.Prelude.{slice_get}
 use Rattle.std.proofs.Math.Path.{fun_ext}
 use Rattle.nlist_codec.specs.declared.named.Named.{Named}
-use Rattle.stab_grammar.specs.declared.tree.Symbol.{Symbol}
-use Rattle.stab_grammar.specs.Files.{with_files}
-use Rattle.stab_units.specs.declared.outline_types.HeaderMark.{HeaderMark}
-use Rattle.stab_units.specs.declared.outline_types.UnitSpan.{UnitSpan}
-use Rattle.stab_units.specs.declared.outline_types.Marks.TheVariants.{Image}
+use Rattle.stab_symbols.specs.declared.tree.Symbol.{Symbol}
+use Rattle.stab_symbols.specs.Files.{with_files}
+use Rattle.unit_outlines.specs.declared.outline_types.HeaderMark.{HeaderMark}
+use Rattle.unit_outlines.specs.declared.outline_types.UnitSpan.{UnitSpan}
+use Rattle.unit_outlines.specs.declared.outline_types.Marks.TheVariants.{Image}
 use Rattle.stab_units.specs.declared.unit.HeaderFile.{HeaderFile}
 use Rattle.stab_units.specs.declared.unit.Unit.{Unit}
-use Rattle.stab_units.specs.Outlines.{units_of, IsOutlined}
+use Rattle.unit_outlines.specs.Outlines.{units_of, IsOutlined}
 use Rattle.stab_units.specs.Units.{Filed, header_name, names_of, files_from, AreUnitsOf}
 use Rattle.type_graph.specs.declared.world.External.{External}
 use Rattle.type_graph.specs.Worlds.{externals_of}
 use Rattle.unit_index.specs.declared.owner.Owner.{Owner}
 use Rattle.unit_index.specs.Owners.{Row, unit_rows, rows_of, owner_in, stands_for}
 use Rattle.unit_index.specs.Expanding.{symbols_at, taken_over, file_expanded, headers_expanded, files_expanded, unit_expanded, units_expanded, expanded, IsExpanded}
-use Rattle.unit_index.specs.Indexes.{Indexed, all_owners, AreInPlace, owners_by, IsIndex}
-use Rattle.unit_index.specs.Filling.{owners_at, taken_by, taken_from, all_taken, file_with, headers_with, files_with, unit_with, units_with, AsMany, AreFull}
+use Rattle.unit_index.specs.Indexes.{Indexed, all_owners, AreInPlace, owners_by, IsIndex, AsMany}
+use Rattle.unit_index.specs.Filling.{owners_at, taken_by, taken_from, all_taken, file_with, headers_with, files_with, unit_with, units_with, AreFull}
 use Rattle.unit_index.proofs.Tests.{map_length}
-use Rattle.unit_index.proofs.PlaceLemmas.{number_in_table, stands_at, owners_in_place, all_by_units}
+use Rattle.unit_index.proofs.PlaceLemmas.{number_in_table, stands_at, owners_in_place, all_by_units, as_many_by}
 
 -- ---- as many
-
-rows_length : (unit file : ℕ) (hs : List HeaderMark) → length (unit_rows unit file hs) ≡ length hs
-rows_length unit file [] = refl
-rows_length unit file (h ∷ hs) = ap suc (rows_length unit (file + 1) hs)
-
-as_many_by : (all : List Row) (unit : ℕ) (spans : List UnitSpan) → AsMany spans (owners_by all unit spans)
-as_many_by all unit [] = tt
-as_many_by all unit (s ∷ spans) = (map_length (owner_in all) (unit_rows unit 1 s.headers) ∙ rows_length unit 1 s.headers, as_many_by all (unit + 1) spans)
 
 files_length : (number : ℕ) (names : List (List ℕ)) (items : List Filed) → length (files_from number names items) ≡ length names
 files_length number [] items = refl

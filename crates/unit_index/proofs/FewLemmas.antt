@@ -5,11 +5,11 @@ use Rattle.std.proofs.lemmas.List.{length-append}
 use Rattle.std.proofs.lemmas.Option.{same_Some}
 use Rattle.stab_codes.specs.declared.code.TheConstants.{N_SO, N_BINCL, N_EXCL}
 use Rattle.nlist_codec.specs.declared.named.Named.{Named}
-use Rattle.stab_units.specs.declared.outline_types.HeaderMark.{HeaderMark}
-use Rattle.stab_units.specs.declared.outline_types.UnitSpan.{UnitSpan}
-use Rattle.stab_units.specs.Words.{next}
-use Rattle.stab_units.specs.Marks.{mark_at}
-use Rattle.stab_units.specs.Outlines.{end_number, header_at, headers_from, inside, units_from, units_of, span_at, directory_of}
+use Rattle.unit_outlines.specs.declared.outline_types.HeaderMark.{HeaderMark}
+use Rattle.unit_outlines.specs.declared.outline_types.UnitSpan.{UnitSpan}
+use Rattle.unit_outlines.specs.EntryWords.{next}
+use Rattle.unit_outlines.specs.Marks.{mark_at}
+use Rattle.unit_outlines.specs.Outlines.{end_number, header_at, headers_from, inside, units_from, units_of, span_at, directory_of}
 use Rattle.unit_index.specs.LookingUp.{AreFew}
 use Rattle.unit_index.proofs.StepLemmas.{step_cases}
 use Rattle.unit_index.proofs.Tests.{none_is}

@@ -5,11 +5,12 @@ use Rattle.std.specs.List.{filter}
 use Rattle.std.proofs.lemmas.Bool.{eq-eqb, eqb-true}
 use Rattle.std.proofs.lemmas.List.Elements.{filter-append}
 use Rattle.std.proofs.lemmas.Option.{same_Some}
-use Rattle.stab_units.specs.declared.outline_types.UnitSpan.{UnitSpan}
+use Rattle.unit_outlines.specs.declared.outline_types.UnitSpan.{UnitSpan}
 use Rattle.unit_index.specs.declared.owner.Owner.{Owner}
 use Rattle.unit_index.specs.declared.owner.TheConstants.{NO_FILE}
 use Rattle.unit_index.specs.Owners.{only_of, file_or_none}
-use Rattle.unit_index.specs.Filling.{owns, file_of, more_files, AsMany}
+use Rattle.unit_index.specs.Indexes.{AsMany}
+use Rattle.unit_index.specs.Filling.{owns, file_of, more_files}
 use Rattle.unit_index.proofs.Tests.{which, both, both_true, not_both, none_is}
 
 -- ---- one header more

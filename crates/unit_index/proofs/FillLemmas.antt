@@ -2,14 +2,15 @@
 use Rattle.std.proofs.Common.{◌≡◌, ℕ, zero, suc, ◌+◌, ◌<◌, ◌≤◌, List, [], ◌∷◌, ◌++◌, length, get_or, take, drop, slice_set, Some, refl, sym, ap, ◌∙◌, arith, subst, append_assoc, append-nil}
 use Rattle.std.specs.Prelude.{slice_get}
 use Rattle.std.proofs.lemmas.List.{drop-set-lt, length-set, take_all}
-use Rattle.stab_grammar.specs.declared.tree.Symbol.{Symbol}
-use Rattle.stab_units.specs.declared.outline_types.HeaderMark.{HeaderMark}
-use Rattle.stab_units.specs.declared.outline_types.UnitSpan.{UnitSpan}
+use Rattle.stab_symbols.specs.declared.tree.Symbol.{Symbol}
+use Rattle.unit_outlines.specs.declared.outline_types.HeaderMark.{HeaderMark}
+use Rattle.unit_outlines.specs.declared.outline_types.UnitSpan.{UnitSpan}
 use Rattle.stab_units.specs.declared.unit.HeaderFile.{HeaderFile}
 use Rattle.stab_units.specs.declared.unit.Unit.{Unit}
 use Rattle.stab_units.proofs.ListLemmas.{drop_item, drop_past}
 use Rattle.unit_index.specs.declared.owner.Owner.{Owner}
-use Rattle.unit_index.specs.Filling.{taken_from, all_taken, AsMany, file_with, headers_with, files_with, unit_with, units_with, AreFull, AreLists}
+use Rattle.unit_index.specs.Indexes.{AsMany}
+use Rattle.unit_index.specs.Filling.{taken_from, all_taken, file_with, headers_with, files_with, unit_with, units_with, AreFull, AreLists}
 use Rattle.unit_index.proofs.Tests.{drop_get, take_set, set_twice}
 
 -- ---- a list in which an item is taken out and put back

@@ -1,13 +1,13 @@
 -- The entries of an image have one index or one fault, and are one world or have one fault.
-use Rattle.std.proofs.Common.{◌≡◌, ℕ, ◌⊎◌, inl, inr, Option, Some, None, refl, sym, ap, ◌∙◌, List, [], ◌∷◌}
+use Rattle.std.proofs.Common.{◌≡◌, ℕ, ◌⊎◌, inl, inr, Option, Some, None, refl, sym, ap, ◌∙◌, List}
 use Rattle.st_base.specs.declared.fault.Fault.{Fault}
 use Rattle.nlist_codec.specs.declared.named.Named.{Named}
-use Rattle.stab_units.specs.declared.outline_types.Marks.{Marks}
-use Rattle.stab_units.specs.declared.outline_types.Marks.TheVariants.{Image}
-use Rattle.stab_units.specs.declared.outline_types.UnitSpan.{UnitSpan}
+use Rattle.unit_outlines.specs.declared.outline_types.Marks.{Marks}
+use Rattle.unit_outlines.specs.declared.outline_types.Marks.TheVariants.{Image}
+use Rattle.unit_outlines.specs.declared.outline_types.UnitSpan.{UnitSpan}
 use Rattle.stab_units.specs.declared.unit.Unit.{Unit}
-use Rattle.stab_units.specs.Outlines.{OutlineFault, units_of}
-use Rattle.stab_units.specs.Units.{IsUnitOf, AreUnitsOf, UnitFault, SpansFault}
+use Rattle.unit_outlines.specs.Outlines.{OutlineFault, units_of}
+use Rattle.stab_units.specs.Units.{AreUnitsOf, SpansFault}
 use Rattle.type_graph.specs.declared.world.World.{World}
 use Rattle.type_graph.specs.Worlds.{externals_of}
 use Rattle.unit_index.specs.Owners.{rows_of, index_fault}
@@ -55,41 +55,10 @@ module _ (some_outline : (marks : Marks) (entries : List Named) → (f : Option 
 
 module _ (some_index : (t : ℕ) (entries : List Named) → (f : Option Fault) × IndexFault t entries f)
     (one_index : (t : ℕ) (entries : List Named) (f g : Option Fault) → IndexFault t entries f → IndexFault t entries g → f ≡ g)
-    (some_unit : (entries : List Named) (span : UnitSpan) → ((unit : Unit) × IsUnitOf entries span unit) ⊎ ((f : Fault) × UnitFault entries span f))
-    (one_unit : (entries : List Named) (span : UnitSpan) (u v : Unit) → IsUnitOf entries span u → IsUnitOf entries span v → u ≡ v)
-    (one_unit_fault : (entries : List Named) (span : UnitSpan) (f g : Fault) → UnitFault entries span f → UnitFault entries span g → f ≡ g)
-    (unit_not_both : (entries : List Named) (span : UnitSpan) (unit : Unit) (f : Fault) → IsUnitOf entries span unit → UnitFault entries span f → ⊥) where
-  -- ---- units in order
-
-  spans_some : (entries : List Named) (spans : List UnitSpan) → ((us : List Unit) × AreUnitsOf entries spans us) ⊎ ((f : Fault) × SpansFault entries spans f)
-  spans_some entries [] = inl ([], tt)
-  spans_some entries (s ∷ spans) = elim (some_unit entries s) [
-    | inr f ↦ inr (f.0, inl f.1)
-    | inl u ↦ elim (spans_some entries spans) [ inl more ↦ inl (u.0 ∷ more.0, (u.1, more.1)) | inr f ↦ inr (f.0, inr (u.0, u.1, f.1)) ]
-  ]
-
-  spans_one : (entries : List Named) (spans : List UnitSpan) (us vs : List Unit) → AreUnitsOf entries spans us → AreUnitsOf entries spans vs → us ≡ vs
-  spans_one entries [] [] [] a b = refl
-  spans_one entries [] [] (v ∷ vs) a b = absurd b
-  spans_one entries [] (u ∷ us) vs a b = absurd a
-  spans_one entries (s ∷ spans) [] vs a b = absurd a
-  spans_one entries (s ∷ spans) (u ∷ us) [] a b = absurd b
-  spans_one entries (s ∷ spans) (u ∷ us) (v ∷ vs) a b = ap (λ (z : Unit). z ∷ us) (one_unit entries s u v a.0 b.0) ∙ ap (λ (z : List Unit). v ∷ z) (spans_one entries spans us vs a.1 b.1)
-
-  spans_fault_one : (entries : List Named) (spans : List UnitSpan) (f g : Fault) → SpansFault entries spans f → SpansFault entries spans g → f ≡ g
-  spans_fault_one entries [] f g a b = absurd a
-  spans_fault_one entries (s ∷ spans) f g a b = elim a [
-    | inl x ↦ elim b [ inl y ↦ one_unit_fault entries s f g x y | inr y ↦ absurd (unit_not_both entries s y.0 f y.1 x) ]
-    | inr x ↦ elim b [ inl y ↦ absurd (unit_not_both entries s x.0 g x.1 y) | inr y ↦ spans_fault_one entries spans f g x.2 y.2 ]
-  ]
-
-  spans_not_both : (entries : List Named) (spans : List UnitSpan) (us : List Unit) (f : Fault) → AreUnitsOf entries spans us → SpansFault entries spans f → ⊥
-  spans_not_both entries [] us f a h = absurd h
-  spans_not_both entries (s ∷ spans) [] f a h = absurd a
-  spans_not_both entries (s ∷ spans) (u ∷ us) f a h = elim h [ inl x ↦ unit_not_both entries s u f a.0 x | inr x ↦ spans_not_both entries spans us f a.1 x.2 ]
-
-  -- ---- all
-
+    (spans_some : (entries : List Named) (spans : List UnitSpan) → ((units : List Unit) × AreUnitsOf entries spans units) ⊎ ((f : Fault) × SpansFault entries spans f))
+    (spans_one : (entries : List Named) (spans : List UnitSpan) (us vs : List Unit) → AreUnitsOf entries spans us → AreUnitsOf entries spans vs → us ≡ vs)
+    (spans_fault_one : (entries : List Named) (spans : List UnitSpan) (f g : Fault) → SpansFault entries spans f → SpansFault entries spans g → f ≡ g)
+    (spans_not_both : (entries : List Named) (spans : List UnitSpan) (units : List Unit) (f : Fault) → AreUnitsOf entries spans units → SpansFault entries spans f → ⊥) where
   world_behind : (t : ℕ) (entries : List Named) (o : Option Fault) → IndexFault t entries o → ((world : World) × IsExpanded t entries world) ⊎ ((f : Fault) × ExpandFault t entries f)
   world_behind t entries (Some f) h = inr (f, inl h)
   world_behind t entries None h = elim (spans_some entries (units_of t entries)) [

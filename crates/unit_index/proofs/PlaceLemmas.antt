@@ -1,5 +1,5 @@
 -- In an index each owner stands at its unit and number, so what is looked for among all owners is found at its place in one unit.
-use Rattle.std.proofs.Common.{◌≡◌, ◌≢◌, ℕ, zero, suc, ◌+◌, ◌-◌, ◌<◌, ◌⊎◌, ◌&&◌, Bool, true, false, cond, List, [], ◌∷◌, ◌++◌, Option, Some, None, refl, sym, ap, ◌∙◌, arith, inl, inr, subst, map, append-nil}
+use Rattle.std.proofs.Common.{◌≡◌, ◌≢◌, ℕ, zero, suc, ◌+◌, ◌-◌, ◌<◌, ◌⊎◌, ◌&&◌, Bool, true, false, cond, List, [], ◌∷◌, ◌++◌, Option, Some, None, refl, sym, ap, ◌∙◌, arith, inl, inr, subst, length, map, append-nil}
 use Rattle.std.specs.Prelude.{slice_get, nat_eq, unwrap_or}
 use Rattle.std.specs.List.{filter}
 use Rattle.std.specs.Option.{option_map}
@@ -7,16 +7,16 @@ use Rattle.std.proofs.lemmas.Bool.{eq-eqb, eqb-true}
 use Rattle.std.proofs.lemmas.List.{map-append}
 use Rattle.std.proofs.lemmas.List.Elements.{filter-append}
 use Rattle.std.proofs.lemmas.Option.{slice_get-map}
-use Rattle.stab_grammar.specs.Files.{new_file}
-use Rattle.stab_units.specs.declared.outline_types.HeaderMark.{HeaderMark}
-use Rattle.stab_units.specs.declared.outline_types.UnitSpan.{UnitSpan}
+use Rattle.stab_symbols.specs.Files.{new_file}
+use Rattle.unit_outlines.specs.declared.outline_types.HeaderMark.{HeaderMark}
+use Rattle.unit_outlines.specs.declared.outline_types.UnitSpan.{UnitSpan}
 use Rattle.unit_index.specs.declared.owner.Owner.{Owner}
 use Rattle.unit_index.specs.declared.owner.TheConstants.{NO_FILE}
 use Rattle.unit_index.specs.declared.owner.HeaderAt.{HeaderAt}
 use Rattle.unit_index.specs.Owners.{Row, row_at, unit_rows, rows_from, only_of, the_one, is_like, owned_by, owner_in, is_header, stands_for, is_same, file_or_none, number_for, new_number}
-use Rattle.unit_index.specs.Indexes.{all_owners, AreNumbered, AreInPlace, owners_by, opener}
+use Rattle.unit_index.specs.Indexes.{all_owners, AreNumbered, AreInPlace, AsMany, owners_by, opener}
 use Rattle.unit_index.specs.Filling.{owns, number_of, numbers_of, owners_at}
-use Rattle.unit_index.proofs.Tests.{which, both, both_true}
+use Rattle.unit_index.proofs.Tests.{which, both, both_true, map_length}
 
 -- ---- an index is in place
 
@@ -34,6 +34,15 @@ rows_numbered all unit file (h ∷ hs) = ((owner_at all (row_at unit file h)).0,
 pub owners_in_place : (all : List Row) (unit : ℕ) (spans : List UnitSpan) → AreInPlace unit (owners_by all unit spans)
 owners_in_place all unit [] = tt
 owners_in_place all unit (s ∷ spans) = (rows_numbered all unit 1 s.headers, owners_in_place all (unit + 1) spans)
+
+-- each unit has as many owners as headers
+rows_length : (unit file : ℕ) (hs : List HeaderMark) → length (unit_rows unit file hs) ≡ length hs
+rows_length unit file [] = refl
+rows_length unit file (h ∷ hs) = ap suc (rows_length unit (file + 1) hs)
+
+pub as_many_by : (all : List Row) (unit : ℕ) (spans : List UnitSpan) → AsMany spans (owners_by all unit spans)
+as_many_by all unit [] = tt
+as_many_by all unit (s ∷ spans) = (map_length (owner_in all) (unit_rows unit 1 s.headers) ∙ rows_length unit 1 s.headers, as_many_by all (unit + 1) spans)
 
 -- the owners by units are those of all headers
 pub all_by_units : (all : List Row) (unit : ℕ) (spans : List UnitSpan) → all_owners (owners_by all unit spans) ≡ map (owner_in all) (rows_from unit spans)
@@ -126,7 +135,7 @@ stands_at oss a unit file =
     ∙ ap (λ z. the_one (is_header unit z) (owners_at (slice_get oss unit))) f
     ∙ find_from unit 1 (owners_at (slice_get oss unit)) file (numbered_at oss a unit)
 
-none_zero : (oss : List (List Owner)) → AreInPlace 0 oss → (unit : ℕ) → stands_for (all_owners oss) unit 0 ≡ None
+pub none_zero : (oss : List (List Owner)) → AreInPlace 0 oss → (unit : ℕ) → stands_for (all_owners oss) unit 0 ≡ None
 none_zero oss a unit =
     ap only_of (in_its_unit unit (λ o. nat_eq 0 o.file) oss a
     ∙ none_later unit 0 1 (owners_at (slice_get oss unit)) (omega arith) (numbered_at oss a unit))

@@ -1,4 +1,4 @@
--- The map of N_BINCL by name and value, with one header more, and what it tells of an N_EXCL.
+-- The map of N_BINCL by name and value, with one header more, and what it says of an N_EXCL.
 use Rattle.std.proofs.Common.{◌≡◌, ℕ, ◌⊎◌, ◌&&◌, Bool, true, false, cond, List, [], ◌∷◌, ◌++◌, Option, Some, None, refl, sym, ap, ◌∙◌, inl, inr, subst, append-nil}
 use Rattle.std.specs.Prelude.{nat_eq, not}
 use Rattle.std.specs.List.{filter}
@@ -9,8 +9,8 @@ use Rattle.std.proofs.lemmas.List.Elements.{filter-append}
 use Rattle.st_base.specs.declared.fault.TheConstants.{NO_HEADER, AMBIGUOUS}
 use Rattle.st_base.specs.Faults.{fault_at}
 use Rattle.unit_index.specs.declared.index.Seen.{Seen}
-use Rattle.unit_index.specs.Owners.{Row, only_of, owned_by, owner_in, fault_by}
-use Rattle.unit_index.specs.LookingUp.{opens, seen_of, more_of, own_fault}
+use Rattle.unit_index.specs.Owners.{Row, only_of, owned_by, owner_in, fault_by, opens}
+use Rattle.unit_index.specs.LookingUp.{seen_of, more_of, own_fault}
 use Rattle.unit_index.proofs.Tests.{which, both, both_true, not_both}
 
 -- ---- one header more

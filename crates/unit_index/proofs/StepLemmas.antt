@@ -3,10 +3,10 @@ use Rattle.std.proofs.Common.{◌≡◌, ℕ, ◌⊎◌, ◌&&◌, inl, inr, Boo
 use Rattle.std.specs.Prelude.{◌==◌}
 use Rattle.stab_codes.specs.declared.code.TheConstants.{N_SO}
 use Rattle.nlist_codec.specs.declared.named.Named.{Named}
-use Rattle.stab_units.specs.declared.outline_types.UnitSpan.{UnitSpan}
-use Rattle.stab_units.specs.Words.{is_empty, ends_in}
-use Rattle.stab_units.specs.Marks.{mark_at, names_source}
-use Rattle.stab_units.specs.Outlines.{span_step}
+use Rattle.unit_outlines.specs.declared.outline_types.UnitSpan.{UnitSpan}
+use Rattle.unit_outlines.specs.EntryWords.{is_empty, ends_in}
+use Rattle.unit_outlines.specs.Marks.{mark_at, names_source}
+use Rattle.unit_outlines.specs.Outlines.{span_step}
 
 -- an entry of this kind and name
 abbrev sample : ℕ → List ℕ → Named

@@ -9,18 +9,18 @@ use Rattle.st_base.specs.declared.fault.TheConstants.{NO_UNIT, EXCLUDED, HEADERS
 use Rattle.st_base.specs.Stabs.{is_stab}
 use Rattle.stab_codes.specs.declared.code.TheConstants.{N_SO, N_BINCL, N_EXCL}
 use Rattle.nlist_codec.specs.declared.named.Named.{Named}
-use Rattle.stab_units.specs.declared.outline_types.HeaderMark.{HeaderMark}
-use Rattle.stab_units.specs.declared.outline_types.UnitSpan.{UnitSpan}
-use Rattle.stab_units.specs.declared.outline_types.Marks.{Marks}
-use Rattle.stab_units.specs.declared.outline_types.Marks.TheVariants.{Object, Image}
+use Rattle.unit_outlines.specs.declared.outline_types.HeaderMark.{HeaderMark}
+use Rattle.unit_outlines.specs.declared.outline_types.UnitSpan.{UnitSpan}
+use Rattle.unit_outlines.specs.declared.outline_types.Marks.{Marks}
+use Rattle.unit_outlines.specs.declared.outline_types.Marks.TheVariants.{Object, Image}
 use Rattle.stab_units.specs.declared.unit.HeaderFile.{HeaderFile}
 use Rattle.stab_units.specs.declared.unit.Unit.{Unit}
-use Rattle.stab_units.specs.Words.{next, is_empty, onto}
-use Rattle.stab_units.specs.Firsts.{smaller}
-use Rattle.stab_units.specs.Marks.{mark_at, in_unit, is_header, headers_in}
-use Rattle.stab_units.specs.Outlines.{end_number, header_at, headers_from, inside, units_from, units_of, span_at, directory_of, unit_tell, matches_tell, outline_tell, OutlineFault}
+use Rattle.unit_outlines.specs.EntryWords.{next, is_empty, onto}
+use Rattle.unit_outlines.specs.Firsts.{smaller}
+use Rattle.unit_outlines.specs.Marks.{mark_at, in_unit, is_header, headers_in}
+use Rattle.unit_outlines.specs.Outlines.{end_number, header_at, headers_from, inside, units_from, units_of, span_at, directory_of, unit_tell, matches_tell, outline_tell, OutlineFault}
 use Rattle.stab_units.specs.Units.{AreUnitsOf}
-use Rattle.stab_units.specs.Worlds.{UnitsFault}
+use Rattle.stab_units.specs.ObjectUnits.{UnitsFault}
 use Rattle.type_graph.specs.declared.world.World.{World}
 use Rattle.type_graph.specs.Worlds.{IsWorldOf}
 use Rattle.unit_index.specs.declared.owner.Owner.{Owner}
@@ -29,9 +29,9 @@ use Rattle.unit_index.specs.Expanding.{IndexFault, taken_over, headers_expanded,
 use Rattle.unit_index.proofs.StepLemmas.{step_cases}
 use Rattle.unit_index.proofs.Tests.{which, not_both}
 
--- ---- what is told of an entry
+-- ---- the fault of an entry
 
--- of two numbers one is told
+-- of two numbers one is reported
 smaller_none : (a b : Option ℕ) → smaller a b ≡ None → (a ≡ None) × (b ≡ None)
 smaller_none None b e = (refl, e)
 smaller_none (Some a) None e = absurd (none-some a (sym e))
@@ -40,7 +40,7 @@ smaller_none (Some a) (Some b) e = by_case (ltb b a) e where
   by_case true h = absurd (none-some b (sym h))
   by_case false h = absurd (none-some a (sym h))
 
--- what is told of an entry by its tests
+-- the fault of an entry by its tests
 abbrev tell_by : Bool → Bool → Bool → Bool → Bool → Option ℕ
 tell_by other start within excluded many = cond other None (cond start None (cond (not within) (Some NO_UNIT) (cond excluded (Some EXCLUDED) (cond many (Some HEADERS) None))))
 
@@ -52,7 +52,7 @@ image_none false false false true excluded many e = e
 image_none true false false true false many e = e
 image_none true false false true true many e = absurd (none-some EXCLUDED (sym e))
 
--- nothing is told of an image where nothing is told of an object
+-- an image has no fault where an object has none
 tell_image : (back : List Named) (e : Named) (es : List Named) → outline_tell Object back e es ≡ None → outline_tell Image back e es ≡ None
 tell_image back e es h =
     let b = smaller_none (unit_tell Object back e es) (matches_tell back e es) h in
@@ -60,7 +60,7 @@ tell_image back e es h =
     (image_none true (not (is_stab e.kind)) ((e.kind == N_SO) && not (is_empty e.name)) (in_unit back) (e.kind == N_EXCL) (is_header e.kind && not (ltb (headers_in back) 65535)) b.0)
     ∙ b.1
 
--- something is told of an N_EXCL in an object
+-- an N_EXCL in an object has a fault
 excluded_told : (other start within many : Bool) → other ≡ false → start ≡ false → tell_by other start within true many ≡ None → ⊥
 excluded_told true start within many o s e = not_both true refl o
 excluded_told false true within many o s e = not_both true refl s
@@ -75,7 +75,7 @@ tell_excluded back kind other desc value name es is h =
     let b = smaller_none (unit_tell Object back (record { kind = N_EXCL; other = other; desc = desc; value = value; name = name }) es) (matches_tell back (record { kind = N_EXCL; other = other; desc = desc; value = value; name = name }) es) told in
     excluded_told false false (in_unit back) (is_header N_EXCL && not (ltb (headers_in back) 65535)) refl refl b.0
 
--- ---- what is told of a list
+-- ---- the fault of a list
 
 none_told : (o : Option ℕ) → ((n : ℕ) → o ≡ Some n → ⊥) → o ≡ None
 none_told None h = refl

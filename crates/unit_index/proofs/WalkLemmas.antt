@@ -7,8 +7,8 @@ use Rattle.st_base.specs.declared.fault.Refused.{Refused}
 use Rattle.st_base.specs.declared.fault.Refused.TheVariants as refused
 use Rattle.st_base.specs.declared.fault.TheConstants.{NO_HEADER, AMBIGUOUS}
 use Rattle.st_base.specs.Faults.{fault_at}
-use Rattle.stab_units.specs.declared.outline_types.HeaderMark.{HeaderMark}
-use Rattle.stab_units.specs.declared.outline_types.UnitSpan.{UnitSpan}
+use Rattle.unit_outlines.specs.declared.outline_types.HeaderMark.{HeaderMark}
+use Rattle.unit_outlines.specs.declared.outline_types.UnitSpan.{UnitSpan}
 use Rattle.stab_units.proofs.ListLemmas.{drop_item, drop_past}
 use Rattle.unit_index.specs.declared.owner.Owner.{Owner}
 use Rattle.unit_index.specs.Owners.{Row, row_at, unit_rows, rows_from, rows_of, is_like, owner_in, fault_by, fault_among}

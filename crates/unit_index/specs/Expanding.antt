@@ -3,16 +3,17 @@
 use Rattle.std.specs.Prelude.{◌≡◌, ℕ, ◌+◌, ◌⊎◌, List, [], ◌∷◌, cond, map, slice_get, Option, Some, None}
 use Rattle.st_base.specs.declared.fault.Fault.{Fault}
 use Rattle.nlist_codec.specs.declared.named.Named.{Named}
-use Rattle.stab_grammar.specs.declared.tree.Symbol.{Symbol}
-use Rattle.stab_grammar.specs.Files.{with_files}
-use Rattle.stab_units.specs.declared.outline_types.HeaderMark.{HeaderMark}
-use Rattle.stab_units.specs.declared.outline_types.UnitSpan.{UnitSpan}
-use Rattle.stab_units.specs.declared.outline_types.Marks.TheVariants.{Image}
+use Rattle.stab_symbols.specs.declared.tree.Symbol.{Symbol}
+use Rattle.stab_symbols.specs.Files.{with_files}
+use Rattle.unit_outlines.specs.declared.outline_types.HeaderMark.{HeaderMark}
+use Rattle.unit_outlines.specs.declared.outline_types.UnitSpan.{UnitSpan}
+use Rattle.unit_outlines.specs.declared.outline_types.Marks.TheVariants.{Image}
 use Rattle.stab_units.specs.declared.unit.HeaderFile.{HeaderFile}
 use Rattle.stab_units.specs.declared.unit.Unit.{Unit}
-use Rattle.stab_units.specs.Outlines.{OutlineFault, units_of}
+use Rattle.unit_outlines.specs.Outlines.{OutlineFault, units_of}
 use Rattle.stab_units.specs.Units.{AreUnitsOf, SpansFault}
 use Rattle.type_graph.specs.declared.world.World.{World}
+use Rattle.type_graph.specs.Types.{symbols_in}
 use Rattle.type_graph.specs.Worlds.{externals_of}
 use Rattle.unit_index.specs.declared.owner.Owner.{Owner}
 use Rattle.unit_index.specs.Owners.{rows_of, owners_of, index_fault, stands_for, new_number}
@@ -28,17 +29,14 @@ IndexFault text_end entries (Some f) = OutlineFault Image entries (Some f)
 
 -- ---- units, expanded
 
-abbrev pub symbols_of : Option HeaderFile → List Symbol
-symbols_of None = []
-symbols_of (Some file) = file.symbols
-
+-- the files of a unit, none where there is no such unit
 abbrev pub files_of : Option Unit → List HeaderFile
 files_of None = []
 files_of (Some unit) = unit.files
 
 -- the symbols of a file as it was read, none where there is no such file
 abbrev pub symbols_at : List Unit → ℕ → ℕ → List Symbol
-symbols_at units unit file = symbols_of (slice_get (files_of (slice_get units unit)) file)
+symbols_at units unit file = symbols_in (slice_get (files_of (slice_get units unit)) file)
 
 -- what a header of a unit takes over of the range that it stands for: its symbols, with the files that they have in this unit
 abbrev pub taken_over : List Owner → List Unit → ℕ → Option Owner → List Symbol

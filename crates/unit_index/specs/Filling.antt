@@ -3,10 +3,10 @@
 use Rattle.std.specs.Prelude.{◌≡◌, ℕ, ◌+◌, List, [], ◌∷◌, ◌&&◌, Bool, cond, map, Option, Some, None, nat_eq, slice_get, length, ⊤}
 use Rattle.std.specs.List.{filter}
 use Rattle.std.specs.HashMap.{HashMap, get_by}
-use Rattle.stab_grammar.specs.declared.tree.Symbol.{Symbol}
-use Rattle.stab_grammar.specs.Files.{renumbered}
-use Rattle.stab_units.specs.declared.outline_types.HeaderMark.{HeaderMark}
-use Rattle.stab_units.specs.declared.outline_types.UnitSpan.{UnitSpan}
+use Rattle.stab_symbols.specs.declared.tree.Symbol.{Symbol}
+use Rattle.stab_symbols.specs.Files.{renumbered}
+use Rattle.unit_outlines.specs.declared.outline_types.HeaderMark.{HeaderMark}
+use Rattle.unit_outlines.specs.declared.outline_types.UnitSpan.{UnitSpan}
 use Rattle.stab_units.specs.declared.unit.HeaderFile.{HeaderFile}
 use Rattle.stab_units.specs.declared.unit.Unit.{Unit}
 use Rattle.unit_index.specs.declared.owner.Owner.{Owner}
@@ -34,7 +34,7 @@ more_files (Some found) file = NO_FILE
 abbrev pub look_file : {S : Type 0} → HashMap (ℕ × ℕ) ℕ S → ℕ → ℕ → Option ℕ
 look_file files unit file = get_by (λ k. nat_eq unit k.0 && nat_eq file k.1) files
 
--- the map tells of these headers of a unit
+-- the map has these headers of a unit
 abbrev pub Finds : {S : Type 0} → HashMap (ℕ × ℕ) ℕ S → List Owner → Type 0
 Finds files owners = (unit file : ℕ) → look_file files unit file ≡ file_of (filter (owns unit file) owners)
 
@@ -109,13 +109,6 @@ units_with (s ∷ spans) (u ∷ units) [] = []
 units_with (s ∷ spans) (u ∷ units) (ts ∷ taken) = unit_with (files_with s.headers u.files ts) u ∷ units_with spans units taken
 
 -- ---- as many
-
--- each unit has as many owners as headers
-abbrev pub AsMany : List UnitSpan → List (List Owner) → Type 0
-AsMany [] [] = ⊤
-AsMany [] (owners ∷ all) = ⊥
-AsMany (s ∷ spans) [] = ⊥
-AsMany (s ∷ spans) (owners ∷ all) = (length owners ≡ length s.headers) × AsMany spans all
 
 -- each unit that was read has a file for each header, and its main source
 abbrev pub AreFull : List UnitSpan → List Unit → Type 0

@@ -1,8 +1,8 @@
 -- The index of an image: where its units stand, and for each header of each unit its owner.
-use Rattle.std.specs.Prelude.{◌≡◌, ℕ, ◌+◌, List, [], ◌∷◌, map, flat_map, None, ⊤}
+use Rattle.std.specs.Prelude.{◌≡◌, ◌≤◌, ℕ, ◌+◌, List, [], ◌∷◌, length, map, flat_map, slice_get, Some, None, ⊤}
 use Rattle.nlist_codec.specs.declared.named.Named.{Named}
-use Rattle.stab_units.specs.declared.outline_types.UnitSpan.{UnitSpan}
-use Rattle.stab_units.specs.Outlines.{units_of}
+use Rattle.unit_outlines.specs.declared.outline_types.UnitSpan.{UnitSpan}
+use Rattle.unit_outlines.specs.Outlines.{units_of}
 use Rattle.unit_index.specs.declared.owner.Owner.{Owner}
 use Rattle.unit_index.specs.declared.owner.HeaderAt.{HeaderAt}
 use Rattle.unit_index.specs.Owners.{Row, unit_rows, rows_of, owner_in, owners_of}
@@ -29,6 +29,13 @@ abbrev pub AreInPlace : ℕ → List (List Owner) → Type 0
 AreInPlace unit [] = ⊤
 AreInPlace unit (owners ∷ more) = AreNumbered unit 1 owners × AreInPlace (unit + 1) more
 
+-- each unit has as many owners as headers
+abbrev pub AsMany : List UnitSpan → List (List Owner) → Type 0
+AsMany [] [] = ⊤
+AsMany [] (owners ∷ all) = ⊥
+AsMany (s ∷ spans) [] = ⊥
+AsMany (s ∷ spans) (owners ∷ all) = (length owners ≡ length s.headers) × AsMany spans all
+
 -- the owners of the headers of each unit among all these headers; the first unit has this number
 abbrev pub owners_by : List Row → ℕ → List UnitSpan → List (List Owner)
 owners_by all unit [] = []
@@ -37,6 +44,13 @@ owners_by all unit (s ∷ spans) = map (owner_in all) (unit_rows unit 1 s.header
 -- the header that opens the range
 abbrev pub opener : Owner → HeaderAt
 opener o = record { unit = o.owner_unit; file = o.owner_file }
+
+-- the unit has a header of this number; units are counted from 0, the headers of a unit from 1
+pub record HasHeader (spans : List UnitSpan) (unit file : ℕ) : Type 0 where
+  pub span : UnitSpan
+  pub there : slice_get spans unit ≡ Some span
+  pub low : 1 ≤ file
+  pub high : file ≤ length span.headers
 
 -- this is the index of an image with these entries, where text ends at this address
 pub record IsIndex (text_end : ℕ) (entries : List Named) (index : Indexed) : Type 0 where

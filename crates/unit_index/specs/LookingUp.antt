@@ -1,4 +1,4 @@
--- How the owners of headers are looked up: a map tells of each name and value the first N_BINCL that has them, and whether there are
+-- How the owners of headers are looked up: a map has for each name and value the first N_BINCL that has them, and whether there are
 -- more. Contracts of private functions alone use these words.
 use Rattle.std.specs.Prelude.{◌≡◌, ℕ, ◌<◌, ◌^◌, List, [], ◌∷◌, ◌&&◌, not, Bool, true, false, cond, map, Option, Some, None, Result, Ok, Err, nat_eq, slice_get, length, ⊤}
 use Rattle.std.specs.List.{filter}
@@ -8,15 +8,11 @@ use denote.Ref.{Bor}
 use Rattle.st_base.specs.declared.fault.Fault.{Fault}
 use Rattle.st_base.specs.declared.fault.Refused.{Refused}
 use Rattle.st_base.specs.declared.fault.Refused.TheVariants as refused
-use Rattle.stab_units.specs.declared.outline_types.UnitSpan.{UnitSpan}
+use Rattle.unit_outlines.specs.declared.outline_types.UnitSpan.{UnitSpan}
 use Rattle.unit_index.specs.declared.owner.Owner.{Owner}
 use Rattle.unit_index.specs.declared.index.Seen.{Seen}
-use Rattle.unit_index.specs.Owners.{Row, is_like, owner_in, fault_by, fault_among, index_fault, rows_of}
+use Rattle.unit_index.specs.Owners.{Row, opens, is_like, owner_in, fault_by, fault_among, index_fault, rows_of}
 use Rattle.unit_index.specs.Indexes.{owners_by}
-
--- an N_BINCL with this name and value
-abbrev pub opens : List ℕ → ℕ → Row → Bool
-opens name value k = not k.excluded && (pointwise nat_eq name k.name && nat_eq value k.value)
 
 -- the first of some headers, and whether there are more
 abbrev pub seen_of : List Row → Option Seen
@@ -32,7 +28,7 @@ more_of (Some seen) unit file = record { unit = seen.unit; file = seen.file; mor
 abbrev pub look : {S : Type 0} → HashMap (Bor (List ℕ) × ℕ) Seen S → List ℕ → ℕ → Option Seen
 look seen name value = get_by (λ k. pointwise nat_eq name k.0.now && nat_eq value k.1) seen
 
--- the map tells of these headers
+-- the map has these headers
 abbrev pub Sees : {S : Type 0} → HashMap (Bor (List ℕ) × ℕ) Seen S → List Row → Type 0
 Sees seen rows = (name : List ℕ) (value : ℕ) → look seen name value ≡ seen_of (filter (opens name value) rows)
 

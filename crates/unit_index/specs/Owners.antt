@@ -7,8 +7,8 @@ use Rattle.std.specs.Cmp.Lexicographic.{pointwise}
 use Rattle.st_base.specs.declared.fault.Fault.{Fault}
 use Rattle.st_base.specs.declared.fault.TheConstants.{NO_HEADER, AMBIGUOUS}
 use Rattle.st_base.specs.Faults.{fault_at}
-use Rattle.stab_units.specs.declared.outline_types.HeaderMark.{HeaderMark}
-use Rattle.stab_units.specs.declared.outline_types.UnitSpan.{UnitSpan}
+use Rattle.unit_outlines.specs.declared.outline_types.HeaderMark.{HeaderMark}
+use Rattle.unit_outlines.specs.declared.outline_types.UnitSpan.{UnitSpan}
 use Rattle.unit_index.specs.declared.owner.Owner.{Owner}
 use Rattle.unit_index.specs.declared.owner.TheConstants.{NO_FILE}
 
@@ -55,9 +55,13 @@ rows_of spans = rows_from 0 spans
 
 -- ---- owners
 
--- k is an N_BINCL, and has the name and the value of r
+-- an N_BINCL with this name and value
+abbrev pub opens : List ℕ → ℕ → Row → Bool
+opens name value k = not k.excluded && (pointwise nat_eq name k.name && nat_eq value k.value)
+
+-- k is an N_BINCL with the name and the value of r
 abbrev pub is_like : Row → Row → Bool
-is_like r k = not k.excluded && (pointwise nat_eq r.name k.name && nat_eq r.value k.value)
+is_like r k = opens r.name r.value k
 
 -- the header r stands for the range that this one opens
 abbrev pub owned_by : Row → Option Row → Owner
@@ -74,7 +78,7 @@ owners_of all = map (owner_in all) all
 
 -- ---- faults
 
--- the fault of an N_EXCL that is like these N_BINCL, or what is told later
+-- the fault of an N_EXCL that is like these N_BINCL, or what is reported later
 abbrev pub fault_by : Row → List Row → Option Fault → Option Fault
 fault_by r [] later = Some (fault_at NO_HEADER r.place)
 fault_by r (k ∷ []) later = later

@@ -3,10 +3,11 @@
 
 ghost use Rattle.std.specs.Prelude.{◌≡◌, ◌+◌, ◌<◌, ◌^◌, length, Err, IfOk};
 ghost use Rattle.st_base.specs.declared.fault.Fault.{Fault as SomeFault};
-ghost use Rattle.stab_units.specs.Worlds.{strings_in};
+ghost use Rattle.stab_units.specs.ObjectUnits.{strings_in};
 ghost use Rattle.unit_index.specs.Expanding.{IsExpanded, ExpandFault};
 ghost use Rattle.unit_index.specs.Filling as filling;
-ghost use Rattle.unit_index.specs.Filling.{units_with, AsMany, AreFull};
+ghost use Rattle.unit_index.specs.Indexes.{AsMany};
+ghost use Rattle.unit_index.specs.Filling.{units_with, AreFull};
 
 use crate::filling::filled_units;
 use crate::index::Index;

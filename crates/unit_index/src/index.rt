@@ -1,12 +1,12 @@
 //! The index of an image. One pass over the headers notes each N_BINCL by its name and value, a second one answers each N_EXCL by one
 //! look-up.
 
-ghost use Rattle.std.specs.Prelude.{◌≡◌, ℕ, ◌<◌, ◌^◌, List, [], ◌∷◌, ◌++◌, length, Err, Some, IfOk, OnOk};
+ghost use Rattle.std.specs.Prelude.{◌≡◌, ℕ, ◌<◌, ◌^◌, ◌↔◌, List, [], ◌∷◌, ◌++◌, length, Err, Some, IfOk, OnOk, IsNone};
 ghost use Rattle.std.specs.Option.{option_copied, option_map};
 ghost use Rattle.st_base.specs.declared.fault.Fault.{Fault as SomeFault};
 ghost use Rattle.unit_index.specs.Owners.{Row, row_at, unit_rows, rows_of, stands_for};
 ghost use Rattle.unit_index.specs.Expanding.{IndexFault};
-ghost use Rattle.unit_index.specs.Indexes.{IsIndex, all_owners, opener};
+ghost use Rattle.unit_index.specs.Indexes.{IsIndex, HasHeader, AreInPlace, all_owners, opener};
 ghost use Rattle.unit_index.specs.LookingUp.{more_of, Sees, IsOwner, AreOwners, AreAllOwners, AreFew};
 
 use crate::owner::{HeaderAt, Owner};
@@ -183,13 +183,13 @@ pub struct Index {
 }
 
 impl Model for Index {
-    ghost use Rattle.unit_index.specs.Indexes.{Indexed, AreInPlace};
+    ghost use Rattle.unit_index.specs.Indexes.{Indexed, AreInPlace, AsMany};
 
     ghost Value = { Indexed };
 
     ghost view = { λ index. record { outlines = index.outlines; owners = index.owners } };
 
-    ghost invariant = { λ index. AreInPlace 0 index.owners };
+    ghost invariant = { λ index. AreInPlace 0 index.owners × AsMany index.outlines index.owners };
 }
 
 impl Index {
@@ -230,18 +230,10 @@ impl Index {
     /// The header that opens the range for which a header stands; `None` exactly where the unit has no such header. Units are counted
     /// from 0, headers from 1. Takes no memory.
     pub fn stands_for(&self, unit: u32, file: u32) -> Option<HeaderAt>
-        ensures { result ≡ option_map opener (stands_for (all_owners self.now.owners) unit file) }
+        ensures opener { result ≡ option_map opener (stands_for (all_owners self.now.owners) unit file) }
+        ensures none { IsNone result ↔ (HasHeader self.now.outlines unit file → ⊥) }
     {
-        match self.owners.get(unit as usize) {
-            Some(owners) => {
-                if file == 0 {
-                    None
-                } else {
-                    opener_of(owners.get(file as usize - 1))
-                }
-            }
-            None => None,
-        }
+        opener_among(&self.owners, unit, file)
     }
 }
 
@@ -253,6 +245,23 @@ fn opener_of(owner: Option<&Owner>) -> Option<HeaderAt>
             unit: owner.owner_unit,
             file: owner.owner_file,
         }),
+        None => None,
+    }
+}
+
+// The header that opens the range for which a header stands, where these are the owners of all units.
+fn opener_among(all: &List<List<Owner>>, unit: u32, file: u32) -> Option<HeaderAt>
+    requires { AreInPlace 0 all.now }
+    ensures { result ≡ option_map opener (stands_for (all_owners all.now) unit file) }
+{
+    match all.get(unit as usize) {
+        Some(owners) => {
+            if file == 0 {
+                None
+            } else {
+                opener_of(owners.get(file as usize - 1))
+            }
+        }
         None => None,
     }
 }

@@ -3,16 +3,22 @@
 ghost use Rattle.std.specs.Prelude.{◌≡◌, ◌⊎◌, ◌↔◌, ℕ, List, None, Option};
 ghost use Rattle.st_base.specs.declared.fault.Fault.{Fault};
 ghost use Rattle.nlist_codec.specs.declared.named.Named.{Named};
-ghost use Rattle.stab_units.specs.declared.outline_types.Marks.TheVariants.{Object};
-ghost use Rattle.stab_units.specs.Outlines.{OutlineFault};
-ghost use Rattle.stab_units.specs.Worlds.{UnitsFault};
+ghost use Rattle.unit_outlines.specs.declared.outline_types.Marks.TheVariants.{Object};
+ghost use Rattle.unit_outlines.specs.Outlines.{OutlineFault};
+ghost use Rattle.stab_units.specs.ObjectUnits.{UnitsFault};
 ghost use Rattle.type_graph.specs.declared.world.World.{World};
 ghost use Rattle.type_graph.specs.Worlds.{IsWorldOf};
+ghost use Rattle.unit_index.specs.declared.owner.TheConstants.{NO_FILE};
 ghost use Rattle.unit_index.specs.Expanding.{IndexFault, IsExpanded, ExpandFault};
 
-use stab_units::{one_outline, one_unit};
+use stab_units::{one_outline, one_spans};
 
-/// The entries of an image either have no fault of an index, or exactly one that is told.
+/// What the number of no file is: definitions cite the constant, so that a changed constant would change what they say.
+pub fn limits_are()
+    ensures no_file { NO_FILE ≡ 65536 }
+{}
+
+/// The entries of an image either have no fault of an index, or exactly one that is reported.
 pub fn one_index()
     ensures some { (text_end : ℕ) (entries : List Named) → (f : Option Fault) × IndexFault text_end entries f }
     ensures one { (text_end : ℕ) (entries : List Named) (f g : Option Fault) → IndexFault text_end entries f → IndexFault text_end entries g → f ≡ g }
@@ -20,7 +26,7 @@ pub fn one_index()
     one_outline();
 }
 
-/// The entries of an image either are exactly one world, or have exactly one fault that is told.
+/// The entries of an image either are exactly one world, or have exactly one fault that is reported.
 pub fn one_expansion()
     ensures some { (text_end : ℕ) (entries : List Named) → ((world : World) × IsExpanded text_end entries world) ⊎ ((f : Fault) × ExpandFault text_end entries f) }
     ensures one { (text_end : ℕ) (entries : List Named) (v w : World) → IsExpanded text_end entries v → IsExpanded text_end entries w → v ≡ w }
@@ -28,7 +34,7 @@ pub fn one_expansion()
     ensures not_both { (text_end : ℕ) (entries : List Named) (world : World) (f : Fault) → IsExpanded text_end entries world → ExpandFault text_end entries f → ⊥ }
 {
     one_index();
-    one_unit();
+    one_spans();
 }
 
 /// Entries that may be those of an object, in which no header is excluded, are the same world as an object and as an image, and have

@@ -13,5 +13,5 @@ mod taking;
 
 pub use expanding::expand;
 pub use index::Index;
-pub use laws::{one_expansion, one_index, unexcluded_law};
+pub use laws::{limits_are, one_expansion, one_index, unexcluded_law};
 pub use owner::{HeaderAt, NO_FILE, Owner};

@@ -1,10 +1,11 @@
 //! What excluded headers take over: the symbols of the ranges that they stand for, as copies with new numbers.
 
 ghost use Rattle.std.specs.Prelude.{◌≡◌, [], length, map, cond, slice_get, IfOk, OnOk};
-ghost use Rattle.stab_grammar.specs.Files.{renumbered};
+ghost use Rattle.stab_symbols.specs.Files.{renumbered};
 ghost use Rattle.unit_index.specs.Expanding.{symbols_at};
 ghost use Rattle.unit_index.specs.Filling as filling;
-ghost use Rattle.unit_index.specs.Filling.{Finds, AreTables, taken_by, taken_from, AsMany};
+ghost use Rattle.unit_index.specs.Indexes.{AsMany};
+ghost use Rattle.unit_index.specs.Filling.{Finds, AreTables, taken_by, taken_from};
 
 use crate::owner::Owner;
 use crate::tables::{files_of, need_table};
@@ -13,15 +14,14 @@ use stab_grammar::{Symbol, renumber};
 use stab_units::{HeaderMark, Unit, UnitSpan};
 use std::alloc::Global;
 use std::collections::HashMap;
+use type_graph::file_symbols;
 
+// The symbols of a file as it was read; none where there is no such file.
 fn symbols_of<'a>(units: &'a [Unit], unit: u32, file: u32) -> &'a [Symbol]
     ensures { result.now ≡ symbols_at units.now unit file }
 {
     match units.get(unit as usize) {
-        Some(unit) => match unit.files.get(file as usize) {
-            Some(file) => file.symbols.items(),
-            None => &[],
-        },
+        Some(unit) => file_symbols(unit, file),
         None => &[],
     }
 }

@@ -1,4 +1,4 @@
--- The end of names decides whether a zero byte is behind the offset.
+-- The end of names decides whether a zero byte is after the offset.
 use Rattle.std.proofs.Common.{rules}
 use Rattle.aout_object.proofs.EndLemmas.{end_fault-position}
 use Rattle.aout_object.proofs.read.check_name.Goals as goal

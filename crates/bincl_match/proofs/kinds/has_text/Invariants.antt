@@ -1,6 +1,6 @@
 use Rattle.std.proofs.Common.{◌≡◌, drop}
-use Rattle.stab_units.specs.Words.{is_empty}
-use Rattle.stab_units.specs.Runs.{joined}
+use Rattle.unit_outlines.specs.EntryWords.{is_empty}
+use Rattle.unit_outlines.specs.Runs.{joined}
 use Rattle.bincl_match.proofs.kinds.has_text.Given as goal
 
 -- the entries so far have no byte

@@ -1,6 +1,6 @@
 use Rattle.std.proofs.Common.{◌≡◌, ◌++◌, drop}
 use Rattle.std.specs.Prelude.{flat_map}
-use Rattle.stab_grammar.specs.Files.{files_of}
+use Rattle.stab_symbols.specs.Files.{files_of}
 use Rattle.bincl_match.proofs.unit_ranges.all_numbers.Given as goal
 
 -- the numbers so far, and those of the symbols left, are all

@@ -1,5 +1,5 @@
 use Rattle.std.proofs.Common.{◌≡◌, ◌++◌, drop}
-use Rattle.stab_units.specs.Words.{behind_first}
+use Rattle.unit_outlines.specs.EntryWords.{behind_first}
 use Rattle.bincl_match.specs.Reading.{ready_ranges}
 use Rattle.bincl_match.proofs.unit_ranges.put_headers.Given as goal
 

@@ -1,5 +1,5 @@
 use Rattle.std.proofs.Common.{◌≡◌, ◌++◌, drop, map}
-use Rattle.stab_grammar.specs.Files.{shape_of}
+use Rattle.stab_symbols.specs.Files.{shape_of}
 use Rattle.bincl_match.proofs.unit_ranges.shapes.Given as goal
 
 -- the shapes so far, and those of the symbols left, are all

@@ -1,4 +1,4 @@
-use Rattle.stab_units.specs.declared.outline_types.Marks.TheVariants.{Object}
+use Rattle.unit_outlines.specs.declared.outline_types.Marks.TheVariants.{Object}
 use Rattle.header_merge.specs.Merged.{change_of}
 use Rattle.header_merge.proofs.LawLemmas.{locals_go, merged_world_by}
 use Rattle.header_merge.proofs.laws.merged_world.Goals as goal

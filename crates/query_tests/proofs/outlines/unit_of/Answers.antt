@@ -1,5 +1,5 @@
 use Rattle.std.proofs.Common.{sym}
-use Rattle.stab_units.specs.declared.outline_types.Marks.TheVariants.{Image}
+use Rattle.unit_outlines.specs.declared.outline_types.Marks.TheVariants.{Image}
 use Rattle.query_tests.proofs.outlines.unit_of.Goals as goal
 
 -- the span is one of the outline

@@ -1,7 +1,7 @@
 use Rattle.scope_lines.proofs.BelongLemmas.{block_is, own_is, statics_are, waiting_is}
 use Rattle.scope_lines.proofs.EndLemmas.{end_is}
 use Rattle.scope_lines.proofs.NoneLemmas.{no_function}
-use Rattle.scope_lines.proofs.OrderLemmas.{all_ascend}
+use Rattle.scope_lines.proofs.OrderLemmas.{all_ascend, blocks_in_order}
 use Rattle.scope_lines.proofs.UnitLemmas.{unit_is}
 use Rattle.scope_lines.proofs.law.scope_laws.Goals as goal
 
@@ -19,6 +19,9 @@ returns-clause-vars c = waiting_is
 
 pub returns-clause-blocks : goal.returns-clause-blocks
 returns-clause-blocks c = block_is
+
+pub returns-clause-blocks_order : goal.returns-clause-blocks_order
+returns-clause-blocks_order c = blocks_in_order
 
 pub returns-clause-statics : goal.returns-clause-statics
 returns-clause-statics c = statics_are

@@ -56,7 +56,7 @@ decreases-union_at l = 10 * l.depth + 5
 abbrev pub decreases-level : goal.decreases-level
 decreases-level l = 10 * l.depth + 6
 
--- ---- the fields that were read, in front of those still to be read, are those of the whole text
+-- ---- the fields that were read, before those still to be read, are those of the whole text
 
 abbrev pub invariant-fields_at-loop : goal.invariant-fields_at-loop
 invariant-fields_at-loop l = readers.with_front l.fields (readers.up_to 59 (spec.field_at (spec.type_at l.depth)) (l.end - l.counter) l.rest) ≡ readers.many 59 (spec.field_at (spec.type_at l.depth)) l.bytes

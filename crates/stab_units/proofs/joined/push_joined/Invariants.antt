@@ -1,5 +1,5 @@
 use Rattle.std.proofs.Common.{◌≡◌, ◌++◌, drop}
-use Rattle.stab_units.specs.Runs.{joined}
+use Rattle.unit_outlines.specs.Runs.{joined}
 use Rattle.stab_units.proofs.joined.push_joined.Given as goal
 
 -- what is joined so far, and the rest, make the whole string

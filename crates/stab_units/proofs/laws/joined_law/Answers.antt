@@ -1,4 +1,4 @@
-use Rattle.stab_units.proofs.UntoldLemmas.{outline-append}
+use Rattle.unit_outlines.proofs.UntoldLemmas.{outline-append}
 use Rattle.stab_units.proofs.ReadableLemmas.{units-append, no-units}
 use Rattle.stab_units.proofs.AlikeLemmas.{alike_units}
 use Rattle.stab_units.proofs.laws.joined_law.Goals as goal

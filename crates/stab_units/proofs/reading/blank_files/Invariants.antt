@@ -1,6 +1,6 @@
 use Rattle.std.proofs.Common.{◌≡◌, ◌++◌, drop, map}
 use Rattle.stab_units.specs.Units.{header_name, names_of}
-use Rattle.stab_units.specs.Walking.{blank}
+use Rattle.stab_units.specs.ReadingWalk.{blank}
 use Rattle.stab_units.proofs.reading.blank_files.Given as goal
 
 -- the files so far, and those of the headers left, are all

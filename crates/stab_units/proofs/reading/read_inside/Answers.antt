@@ -1,6 +1,6 @@
 use Rattle.std.proofs.Common.{◌+◌, List, drop, subst}
 use Rattle.nlist_codec.specs.declared.named.Named.{Named}
-use Rattle.stab_units.specs.Walking.{HasRead}
+use Rattle.stab_units.specs.ReadingWalk.{HasRead}
 use Rattle.stab_units.proofs.ListLemmas.{drop_item, drop_item_slice, drop_past}
 use Rattle.stab_units.proofs.ReadingLemmas.{end_of_list, end_of_unit}
 use Rattle.stab_units.proofs.reading.read_inside.Goals as goal

@@ -1,6 +1,6 @@
 use Rattle.std.proofs.Common.{◌≡◌, ◌≤◌, ◌+◌, ℕ, List, drop}
 use Rattle.stab_units.specs.Units.{Stab}
-use Rattle.stab_units.specs.Walking.{HasRead}
+use Rattle.stab_units.specs.ReadingWalk.{HasRead}
 use Rattle.stab_units.proofs.reading.read_inside.Given as goal
 
 -- the stabs before the place are read

@@ -1,5 +1,5 @@
 use Rattle.std.proofs.Common.{drop}
-use Rattle.stab_units.specs.Walking.{HaveUnits}
+use Rattle.stab_units.specs.ReadingWalk.{HaveUnits}
 use Rattle.stab_units.proofs.reading.read_spans.Given as goal
 
 -- the spans so far are read

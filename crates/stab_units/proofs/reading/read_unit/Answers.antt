@@ -1,4 +1,4 @@
-use Rattle.stab_units.proofs.UnitLemmas.{outlined_within}
+use Rattle.unit_outlines.proofs.SpanLemmas.{outlined_within}
 use Rattle.stab_units.proofs.reading.read_unit.Goals as goal
 
 -- the span begins at an entry

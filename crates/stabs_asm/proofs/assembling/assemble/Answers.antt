@@ -17,7 +17,7 @@ by_statements : (order : Order) (ss : List Statement) (read : Result (List State
     → Gives result (object_of order ss) → Gives result (assembled order read)
 by_statements order ss read result is gives = subst (λ (z : Result (List Statement) ℕ). Gives result (assembled order z)) (sym is) gives
 
--- the fault of the first line that is of no form
+-- the fault of the first line that does not parse
 by_line : (order : Order) (f : Fault) (read : Result (List Statement) ℕ) → ReadsSource (Err (refused.At f)) read → assembled order read ≡ Err f
 by_line order f read h = ap (assembled order) h.1 ∙ ap Err (sym h.2)
 

@@ -1,7 +1,7 @@
 use Rattle.stabs_asm.proofs.PrintLemmas.{listing_joined}
 use Rattle.stabs_asm.proofs.printed.list.Goals as goal
 
--- each call has put its part behind those before it
+-- each call has put its part after those before it
 pub returns : goal.returns
 returns c =
     let parts = c.parts-parts.ensures.value in

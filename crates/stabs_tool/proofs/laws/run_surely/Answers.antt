@@ -7,4 +7,4 @@ never : Rose 0 0 → ⊥
 never rose = let k : 1 ≤ 0 = rose in omega arith
 
 pub returns : goal.returns
-returns c = c.run.ensures.promise.complete c.args.files.now refl never never never
+returns c = c.run.ensures.promise.complete c.args.files.now.contents refl never never never

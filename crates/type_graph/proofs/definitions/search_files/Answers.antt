@@ -1,6 +1,6 @@
 use Rattle.std.proofs.Common.{List, subst}
 use Rattle.std.specs.Prelude.{Ok}
-use Rattle.stab_grammar.specs.declared.tree.Symbol.{Symbol}
+use Rattle.stab_symbols.specs.declared.tree.Symbol.{Symbol}
 use Rattle.type_graph.specs.Types.{definitions_of}
 use Rattle.type_graph.specs.Searches.{HasMet, definitions_in_file}
 use Rattle.type_graph.proofs.SearchLemmas.{met-more, met-stop}

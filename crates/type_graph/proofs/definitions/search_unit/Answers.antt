@@ -1,5 +1,5 @@
 use Rattle.std.proofs.Common.{List, subst}
-use Rattle.stab_grammar.specs.declared.tree.Symbol.{Symbol}
+use Rattle.stab_symbols.specs.declared.tree.Symbol.{Symbol}
 use Rattle.stab_units.specs.declared.unit.HeaderFile.{HeaderFile}
 use Rattle.type_graph.specs.Types.{definitions_of}
 use Rattle.type_graph.specs.Searches.{HasMet, file_definitions}

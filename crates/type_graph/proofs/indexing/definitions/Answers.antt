@@ -1,7 +1,7 @@
 use Rattle.std.proofs.Common.{◌≡◌, List, ap, ◌∙◌, Option, None, rules}
 use Rattle.std.specs.Prelude.{slice_get}
-use Rattle.stab_grammar.specs.declared.tree.Key.{Key}
-use Rattle.stab_grammar.specs.declared.tree.TypeTree.{TypeTree}
+use Rattle.stab_symbols.specs.declared.tree.Key.{Key}
+use Rattle.stab_symbols.specs.declared.tree.TypeTree.{TypeTree}
 use Rattle.stab_units.specs.declared.unit.HeaderFile.{HeaderFile}
 use Rattle.type_graph.specs.Types.{definitions_of, symbols_in}
 use Rattle.type_graph.specs.Searches.{noted_all, file_definitions}

@@ -1,5 +1,5 @@
 use Rattle.std.proofs.Common.{List, subst}
-use Rattle.stab_grammar.specs.declared.tree.Symbol.{Symbol}
+use Rattle.stab_symbols.specs.declared.tree.Symbol.{Symbol}
 use Rattle.type_graph.specs.Types.{definitions_of}
 use Rattle.type_graph.specs.Searches.{definitions_in_file}
 use Rattle.type_graph.specs.Indexes.{HasNoted}

@@ -1,5 +1,5 @@
 use Rattle.std.proofs.Common.{◌≡◌, drop}
-use Rattle.stab_grammar.specs.declared.tree.Key.{Key}
+use Rattle.stab_symbols.specs.declared.tree.Key.{Key}
 use Rattle.type_graph.specs.Indexes.{named_in, symbol_in}
 use Rattle.type_graph.proofs.indexing.note_names.Given as goal
 

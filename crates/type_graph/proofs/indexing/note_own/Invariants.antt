@@ -1,5 +1,5 @@
 use Rattle.std.proofs.Common.{◌≡◌}
-use Rattle.stab_grammar.specs.declared.tree.Key.{Key}
+use Rattle.stab_symbols.specs.declared.tree.Key.{Key}
 use Rattle.type_graph.specs.Indexes.{body_in}
 use Rattle.type_graph.proofs.IndexLemmas.{known_from_own}
 use Rattle.type_graph.proofs.indexing.note_own.Given as goal

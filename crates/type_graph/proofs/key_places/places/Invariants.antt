@@ -1,5 +1,5 @@
 use Rattle.std.proofs.Common.{take}
-use Rattle.stab_grammar.specs.Surface.{ArePlaces}
+use Rattle.stab_symbols.specs.Surface.{ArePlaces}
 use Rattle.type_graph.proofs.key_places.places.Given as goal
 
 -- the places of the keys so far

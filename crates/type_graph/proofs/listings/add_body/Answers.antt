@@ -1,6 +1,6 @@
 use Rattle.std.proofs.Common.{◌≡◌, Option, OnOk, Bor, subst, sym}
 use Rattle.std.specs.Option.{option_copied}
-use Rattle.stab_grammar.specs.declared.tree.TypeTree.{TypeTree}
+use Rattle.stab_symbols.specs.declared.tree.TypeTree.{TypeTree}
 use Rattle.type_graph.specs.KeyLists.{joined}
 use Rattle.type_graph.specs.Listings.{surface_keys}
 use Rattle.type_graph.proofs.KeyListLemmas.{all_added}

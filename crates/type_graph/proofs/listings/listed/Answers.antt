@@ -1,5 +1,5 @@
 use Rattle.std.proofs.Common.{◌<◌, ◌≤◌, ◌∙◌, length, ap, subst, sym, arith, Option}
-use Rattle.stab_grammar.specs.declared.tree.TypeTree.{TypeTree}
+use Rattle.stab_symbols.specs.declared.tree.TypeTree.{TypeTree}
 use Rattle.type_graph.specs.Listings.{IsListing, surface_keys}
 use Rattle.type_graph.specs.KeyLists.{joined}
 use Rattle.type_graph.proofs.WorkListLemmas.{all_there_are, listed-step, listed-bound, listed-all}

@@ -1,7 +1,7 @@
 use Rattle.std.proofs.Common.{◌≡◌, List, sym, ap, ◌∙◌, Option, Some, None, Bor}
 use Rattle.std.specs.List.{find}
 use Rattle.std.specs.Option.{option_copied}
-use Rattle.stab_grammar.specs.declared.tree.Symbol.{Symbol}
+use Rattle.stab_symbols.specs.declared.tree.Symbol.{Symbol}
 use Rattle.type_graph.specs.Sorts.{is_of}
 use Rattle.type_graph.specs.Types.{is_named, outer_of}
 use Rattle.type_graph.proofs.NamesLemmas.{found-here, found-behind}

@@ -1,5 +1,6 @@
 use Rattle.std.proofs.Common.{subst, sym, ◌∙◌}
-use Rattle.unit_index.specs.Filling.{AsMany, AreLists}
+use Rattle.unit_index.specs.Indexes.{AsMany}
+use Rattle.unit_index.specs.Filling.{AreLists}
 use Rattle.unit_index.proofs.FillLemmas.{lists_are}
 use Rattle.unit_index.proofs.expanding.expanded_units.Goals as goal
 

@@ -1,5 +1,5 @@
 use Rattle.std.proofs.Common.{◌+◌, sym, ap, ◌∙◌, length}
-use Rattle.stab_units.specs.declared.outline_types.HeaderMark.{HeaderMark}
+use Rattle.unit_outlines.specs.declared.outline_types.HeaderMark.{HeaderMark}
 use Rattle.unit_index.specs.Filling.{file_with, files_with}
 use Rattle.unit_index.proofs.FillLemmas.{back_length, set_length, fill_step}
 use Rattle.unit_index.proofs.filling.filled_files.Goals as goal

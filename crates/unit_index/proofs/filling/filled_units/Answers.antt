@@ -1,5 +1,5 @@
 use Rattle.std.proofs.Common.{◌+◌, sym, ap, ◌∙◌, length}
-use Rattle.stab_units.specs.declared.outline_types.UnitSpan.{UnitSpan}
+use Rattle.unit_outlines.specs.declared.outline_types.UnitSpan.{UnitSpan}
 use Rattle.unit_index.specs.Filling.{units_with}
 use Rattle.unit_index.proofs.FillLemmas.{units_start, units_next, full_at, lists_at}
 use Rattle.unit_index.proofs.filling.filled_units.Goals as goal

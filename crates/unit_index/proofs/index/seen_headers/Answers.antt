@@ -3,13 +3,13 @@ use Rattle.std.specs.Prelude.{nat_eq}
 use Rattle.std.specs.Cmp.Lexicographic.{pointwise}
 use Rattle.std.specs.Map.{lookup}
 use denote.Ref.{Bor}
-use Rattle.stab_units.specs.declared.outline_types.UnitSpan.{UnitSpan}
+use Rattle.unit_outlines.specs.declared.outline_types.UnitSpan.{UnitSpan}
 use Rattle.unit_index.specs.Owners.{unit_rows, rows_from, rows_of}
 use Rattle.unit_index.specs.LookingUp.{Sees}
 use Rattle.unit_index.proofs.WalkLemmas.{units_step, units_end}
 use Rattle.unit_index.proofs.index.seen_headers.Goals as goal
 
--- an empty map tells of no headers
+-- an empty map has no headers
 pub loop-unit-init : goal.loop-unit-init
 loop-unit-init c = ([], (λ name v. ap (lookup (λ (k : Bor (List ℕ) × ℕ). pointwise nat_eq name k.0.now && nat_eq v k.1)) c.new-seen.ensures.empty), refl)
 

@@ -1,5 +1,6 @@
 use Rattle.std.proofs.Common.{◌≡◌, ◌++◌, drop}
-use Rattle.unit_index.specs.Filling.{all_taken, AsMany}
+use Rattle.unit_index.specs.Indexes.{AsMany}
+use Rattle.unit_index.specs.Filling.{all_taken}
 use Rattle.unit_index.proofs.taking.all_taken.Given as goal
 
 -- the lists so far, and those of the units that are left

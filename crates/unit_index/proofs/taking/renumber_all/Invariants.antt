@@ -1,5 +1,5 @@
 use Rattle.std.proofs.Common.{◌≡◌, ◌++◌, drop, map}
-use Rattle.stab_grammar.specs.Files.{renumbered}
+use Rattle.stab_symbols.specs.Files.{renumbered}
 use Rattle.unit_index.proofs.taking.renumber_all.Given as goal
 
 -- the symbols so far, and those that are left

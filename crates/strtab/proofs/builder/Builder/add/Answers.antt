@@ -1,4 +1,4 @@
--- The name was placed or refused by `place`, whose facts are told here of the builder's names.
+-- The name was placed or refused by `place`, whose facts are said here of the builder's names.
 use Rattle.std.proofs.Common.{◌≢◌, [], refl}
 use Rattle.strtab.specs.StringTable.{HasNoZero}
 use Rattle.strtab.specs.Builder.{IsIndexed}

@@ -1,8 +1,8 @@
 use Rattle.std.proofs.Common.{◌≡◌, Bool, true, false, List, sym, ap, ◌∙◌, cond, rules}
 use Rattle.std.specs.BTreeMap.{is_at}
 use Rattle.std.specs.BTreeSet.{contains}
-use Rattle.stab_grammar.specs.declared.tree.Key.{Key}
-use Rattle.stab_grammar.specs.Surface.{key_order}
+use Rattle.stab_symbols.specs.declared.tree.Key.{Key}
+use Rattle.stab_symbols.specs.Surface.{key_order}
 use Rattle.type_graph.specs.KeyLists.{has}
 use Rattle.type_graph.proofs.KeyListLemmas.{given_back}
 use Rattle.type_graph.proofs.key_set.KeySet.add.Goals as goal

@@ -1,0 +1,8 @@
+pub mod DefinitionLemmas
+pub mod SurfaceLemmas
+pub mod WalkLemmas
+pub mod NumberLemmas
+pub mod Levels
+mod OpeningLemmas
+mod PlacedLemmas
+pub mod Examples

@@ -1,0 +1,9 @@
+pub mod SymbolSpelling
+pub mod Shape
+pub mod Keys
+pub mod TypeWalks
+pub mod Printing
+pub mod Surface
+pub mod Definitions
+pub mod Files
+pub mod Opening

@@ -1,5 +1,0 @@
-use Rattle.stab_units.proofs.Together.{outline_first}
-use Rattle.stab_units.proofs.faults.outline_fault.Goals as goal
-
-pub returns : goal.returns
-returns c = outline_first c.args.marks c.args.entries.now _ c.all_faults.ensures

@@ -1,9 +1,0 @@
-use Rattle.stab_units.proofs.Together.{one_fault}
-use Rattle.stab_units.proofs.OneLaws.{some_outline}
-use Rattle.stab_units.proofs.laws.one_outline.Goals as goal
-
-pub returns-clause-some : goal.returns-clause-some
-returns-clause-some c = some_outline
-
-pub returns-clause-one : goal.returns-clause-one
-returns-clause-one c = one_fault

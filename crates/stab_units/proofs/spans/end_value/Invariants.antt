@@ -1,7 +1,0 @@
-use Rattle.std.proofs.Common.{◌≡◌, drop}
-use Rattle.stab_units.specs.Outlines.{end_of}
-use Rattle.stab_units.proofs.spans.end_value.Given as goal
-
--- no entry so far ends the unit
-abbrev pub invariant-loop-at : goal.invariant-loop-at
-invariant-loop-at l = end_of l.fn.text_end (drop l.at l.rest) ≡ end_of l.fn.text_end l.rest

@@ -1,0 +1,12 @@
+pub mod Examples
+pub mod FirstLemmas
+pub mod NestSweep
+pub mod CountsLaw
+pub mod RunSweep
+pub mod PlaceSweep
+pub mod Together
+pub mod SpanLemmas
+pub mod FewSpans
+pub mod UntoldLemmas
+pub mod EntryKinds
+pub mod RangeLemmas
