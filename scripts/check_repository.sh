@@ -1,6 +1,7 @@
 #!/bin/sh
 # Checks of our own, after the gate's: the committed objects are what their script makes, no text names a path of the machine that it
-# was written on, and the built program ends with the status and the text of each case.
+# was written on, the documents say what the code does (the examples, the tables of faults and statuses, the picture of the crates), and
+# the built program ends with the status and the text of each case.
 cd "$(dirname "$0")/.." || exit 1
 failed=0
 
@@ -32,8 +33,25 @@ if git grep -nIE '/(work|tmp|opt|root|home)/' -- . ':!scripts/check_repository.s
     complain "a committed file names a path of a machine"
 fi
 
+# ---- the program is built here, where it is missing or old
+./stabs >/dev/null
+
+# ---- the documents
+scripts/check_examples.py || complain "the documents have other examples"
+scripts/check_tables.py || complain "the manual has other faults or statuses"
+scripts/crates_picture.py --check || complain "the documents have other crates"
+if command -v mandoc >/dev/null; then
+    # a page that is named and not on this machine is no fault of ours
+    wrong=$(mandoc -Tlint docs/stabs_tool.1 2>&1 | grep -v -e 'referenced manual not found' -e 'outdated mandoc.db')
+    [ -z "$wrong" ] || complain "$wrong"
+else
+    echo "note: docs/stabs_tool.1 is not checked: there is no mandoc" >&2
+fi
+
+# ---- many of anything, and limits
+scripts/check_limits.py || complain "the program is wrong on many, or at a limit"
+
 # ---- the edge of the program: what its tests in memory cannot see
-./stabs >/dev/null 2>&1
 ends . 2 'usage: word 0'
 ends . 2 'usage: word 0' aks a.o
 ends . 2 'usage: word 2' ask a.o
@@ -115,11 +133,6 @@ ends "$folder" 4 'list 92 0 21 _f' link keep 0x1000 image one.o
 ends "$folder" 5 'absent none.o' link keep 0x1000 image one.o none.o
 ends "$folder" 2 'usage: word 4' link keep 0x0 image
 
-# a source and a file of one byte more than their limits
-truncate -s 16777217 "$folder/long.s"
-ends "$folder" 9 'limit 16777216' as little long.s long.o
-truncate -s 134217729 "$folder/long.o"
-ends "$folder" 9 'limit 134217728' query long.o tag 0 list
 rm -r "$folder"
 
 # a sink that takes nothing
