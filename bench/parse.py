@@ -146,7 +146,7 @@ def build(folder):
     for path in ["crates.txt", "HANDLES"]:
         shutil.copy(f"{HERE}/{path}", f"{folder}/{path}")
     with open(f"{folder}/crates.txt", "a") as out:
-        out.write(f"\n{NAME}: st_base outside stab_grammar\n")
+        out.write(f"\n{NAME}: st_base outside stab_symbols stab_grammar\n")
     home = f"{folder}/crates/{NAME}"
     files = {
         "src/main.rt": PROGRAM,
