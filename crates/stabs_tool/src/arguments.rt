@@ -1,6 +1,8 @@
 //! The words of the command line, as bytes. What a runtime hands over is known to no clause, since std's `Env` tells no words: the tests
 //! here have runtimes of their own.
 
+ghost use Rattle.std.specs.Prelude.{◌≤◌, length, IfOk};
+
 use st_base::{List, Memory, Text};
 use std::alloc::Global;
 use std::env::FillError;
@@ -112,7 +114,9 @@ mod tests {
     }
 
     /// Puts a word at the front of the room.
-    fn put(word: &[u8], buf: &mut [u8]) -> Result<usize, FillError> {
+    fn put(word: &[u8], buf: &mut [u8]) -> Result<usize, FillError>
+        ensures { IfOk result (λ count. count ≤ length buf.new) }
+    {
         if buf.len() < word.len() {
             return Err(FillError::TooLong);
         }
@@ -121,7 +125,9 @@ mod tests {
     }
 
     /// Puts the last word at the front of the room: 100,000 bytes.
-    fn put_huge(buf: &mut [u8]) -> Result<usize, FillError> {
+    fn put_huge(buf: &mut [u8]) -> Result<usize, FillError>
+        ensures { IfOk result (λ count. count ≤ length buf.new) }
+    {
         if buf.len() < HUGE {
             return Err(FillError::TooLong);
         }
