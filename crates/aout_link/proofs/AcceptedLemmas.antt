@@ -17,7 +17,7 @@ use Rattle.aout_link.specs.Moves.{totals_of, starts_of, moves_of, moves_after, a
 use Rattle.aout_link.specs.Placing.{Frame, text_frame, data_frame, placed_entry, amount, relocated, bss_of}
 use Rattle.aout_link.specs.Refusals.{fault_in, defines_again, twice_fault, twice_in, is_lacking, undefined_fault, undefined_in, is_lawful, reloc_checks, relocs_fault, object_fault, text_fault, data_fault, relocs_in, has_other_order, has_other_machine, first_that, empty_fault, order_fault, machine_fault, address_fault, place_fault, list_fault}
 use Rattle.aout_link.specs.Sources.{Source}
-use Rattle.aout_link.specs.Tables.{entries_of, names_table}
+use Rattle.aout_link.specs.NameTables.{entries_of, names_table}
 use Rattle.aout_link.specs.declared.moves.Moves.{Moves}
 use Rattle.aout_link.specs.declared.moves.Starts.{Starts}
 use Rattle.aout_link.specs.declared.definitions.Known.{Known}

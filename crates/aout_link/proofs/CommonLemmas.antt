@@ -10,7 +10,7 @@ use Rattle.std.proofs.lemmas.List.Folds.{list_any-append}
 use Rattle.indexmap.specs.IndexMap.{insert_entry}
 use Rattle.nlist_codec.specs.declared.named.Named.{Named}
 use Rattle.aout_link.specs.Answering.{AreDistinct}
-use Rattle.aout_link.specs.Tables.{is_common, defines, known_by, commons_among, added, first_uses, names_of, greatest, sizes_of}
+use Rattle.aout_link.specs.NameTables.{is_common, defines, known_by, commons_among, added, first_uses, names_of, greatest, sizes_of}
 
 -- ---- texts
 

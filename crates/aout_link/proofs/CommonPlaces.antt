@@ -13,7 +13,7 @@ use Rattle.aout_link.specs.declared.definitions.Known.{Known}
 use Rattle.aout_link.specs.Answering.{listed, AreDistinct, AreNew}
 use Rattle.st_base.specs.Multiples.{aligned}
 use Rattle.aout_link.specs.Moves.{fronts}
-use Rattle.aout_link.specs.Tables.{known_by, common_at, commons_total, placed_commons}
+use Rattle.aout_link.specs.NameTables.{known_by, common_at, commons_total, placed_commons}
 use Rattle.aout_link.proofs.FrontLemmas.{fronts_push}
 use Rattle.aout_link.proofs.DefinitionLemmas.{known-append}
 use Rattle.aout_link.proofs.CommonLemmas.{swap_eq, or_false_left, or_false_right}

@@ -19,7 +19,7 @@ use Rattle.aout_link.specs.Answering.{Tells, Defines}
 use Rattle.aout_link.specs.Refusals.{defines_again, twice_fault, twice_in, fault_in, Refuses}
 use Rattle.aout_link.specs.Sources.{Source}
 use Rattle.nlist_codec.specs.Kinds.{defines_name}
-use Rattle.aout_link.specs.Tables.{moved_value, moved_entry, moved_all, defines, entries_of, definitions, known_by, known_of}
+use Rattle.aout_link.specs.NameTables.{moved_value, moved_entry, moved_all, defines, entries_of, definitions, known_by, known_of}
 use Rattle.aout_link.specs.declared.moves.Moves.{Moves}
 use Rattle.aout_link.specs.declared.definitions.Known.{Known}
 

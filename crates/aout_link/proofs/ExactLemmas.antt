@@ -5,7 +5,7 @@ use Rattle.aout_link.specs.declared.definitions.Known.{Known}
 use Rattle.aout_link.specs.Sources.{Source}
 use Rattle.st_base.specs.Multiples.{aligned}
 use Rattle.aout_link.specs.Moves.{fronts}
-use Rattle.aout_link.specs.Tables.{common_at, commons_total, placed_commons}
+use Rattle.aout_link.specs.NameTables.{common_at, commons_total, placed_commons}
 use Rattle.aout_link.specs.Accepted.{Accepted, exact_commons, HasExactCommons}
 
 -- commons behind others

@@ -1,18 +1,21 @@
 -- Worked values of placing, by hand: two objects in little order, linked from address 4096 on. The first calls `_g` of the second, and
 -- both ask for a common `_c`; a word of the second's data points into its text.
-use Rattle.std.proofs.Common.{◌≡◌, ℕ, List, [], ◌∷◌, true, false, refl}
+use Rattle.std.proofs.Common.{◌≡◌, ℕ, List, [], ◌∷◌, true, false, refl, sym, ◌∙◌}
 use Rattle.std.specs.Prelude.{Some, None, codes}
 use Rattle.st_base.specs.declared.order.Order.TheVariants.{Little, Big}
 use Rattle.st_base.specs.Faults.{fault_at}
+use Rattle.st_base.specs.declared.fault.Fault.{Fault}
 use Rattle.stab_codes.specs.Segments.{segment_of}
 use Rattle.nlist_codec.specs.declared.named.Named.{Named}
 use Rattle.aout_object.specs.declared.parts.Parts.{Parts}
 use Rattle.aout_link.specs.Sources.{Source}
 use Rattle.st_base.specs.Multiples.{aligned}
 use Rattle.aout_link.specs.Moves.{moved, all_moves}
-use Rattle.aout_link.specs.Tables.{common_sizes, names_table}
+use Rattle.aout_link.specs.NameTables.{common_sizes, names_table}
 use Rattle.aout_link.specs.Placing.{placed_all, texts, datas, bss_of}
 use Rattle.aout_link.specs.Refusals.{list_fault, fault_in}
+use Rattle.aout_link.specs.Accepted.{Accepted}
+use Rattle.aout_link.proofs.AcceptedLemmas.{accepted_exactly}
 
 -- an entry without a description
 abbrev entry : ℕ → ℕ → List ℕ → Named
@@ -169,3 +172,31 @@ stab-fault = refl
 -- an object of the other order, before one of another machine
 other-order : list_fault 4096 (caller ∷ absolute 255 0 0 ∷ []) ≡ Some (fault_at 90 1)
 other-order = refl
+
+-- ---- accepted lists
+
+both-accepted : Accepted 4096 both
+both-accepted = (accepted_exactly 4096 both).0 both-fault
+
+-- no list is accepted that has no objects
+none-accepted : (base : ℕ) → Accepted base [] → ⊥
+none-accepted base a = a.some refl
+
+-- nor one that has a fault: `_g` lacks, `_f` is there twice, the end of bss is too great, a sum does not fit, the orders differ
+with_fault : (base : ℕ) (os : List Source) (f : Fault) → list_fault base os ≡ Some f → Accepted base os → ⊥
+with_fault base os f faulty a = let same : None ≡ Some f = sym ((accepted_exactly base os).1 a) ∙ faulty in cc
+
+undefined-not : Accepted 4096 (caller ∷ []) → ⊥
+undefined-not = with_fault 4096 (caller ∷ []) (fault_in 92 0 1) one-undefined
+
+twice-not : Accepted 4096 (caller ∷ caller ∷ []) → ⊥
+twice-not = with_fault 4096 (caller ∷ caller ∷ []) (fault_in 93 1 0) again-twice
+
+far-not : Accepted 4294967272 both → ⊥
+far-not = with_fault 4294967272 both (fault_at 94 4294967295) far-address
+
+above-not : Accepted 4096 (absolute 256 0 0 ∷ []) → ⊥
+above-not = with_fault 4096 (absolute 256 0 0 ∷ []) (fault_in 25 0 0) above-fault
+
+order-not : Accepted 4096 (caller ∷ absolute 255 0 0 ∷ []) → ⊥
+order-not = with_fault 4096 (caller ∷ absolute 255 0 0 ∷ []) (fault_at 90 1) other-order

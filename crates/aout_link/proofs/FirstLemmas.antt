@@ -12,10 +12,10 @@ use Rattle.aout_link.specs.Sources.{Source}
 use Rattle.aout_link.specs.declared.moves.Starts.{Starts}
 use Rattle.aout_link.specs.declared.definitions.Known.{Known}
 use Rattle.aout_link.specs.Moves.{moves_of, moves_after, all_moves, starts_of}
-use Rattle.aout_link.specs.Tables.{entries_of, names_table}
+use Rattle.aout_link.specs.NameTables.{entries_of, names_table}
 use Rattle.aout_link.specs.Placing.{Frame, placed_entry, amount, relocated}
 use Rattle.aout_link.specs.Refusals.{fault_in, empty_fault, order_fault, machine_fault, first_that, defines_again, twice_fault, twice_in, is_lacking, undefined_fault, undefined_in, address_fault, reloc_checks, relocs_fault, object_fault, relocs_in, list_fault}
-use Rattle.aout_link.specs.First.{HasFirst, stages, stage_fault, difference, object_twice, object_undefined, object_relocs, entry_twice, entry_undefined, reloc_fault}
+use Rattle.aout_link.specs.FirstOfList.{HasFirst, stages, stage_fault, difference, object_twice, object_undefined, object_relocs, entry_twice, entry_undefined, reloc_fault}
 
 -- ---- a walk that keeps a state, on which each item steps
 

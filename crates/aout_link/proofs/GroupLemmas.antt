@@ -12,7 +12,7 @@ use Rattle.aout_link.specs.Moves.{fronts, moves_between, starts_behind, moves_af
 use Rattle.aout_link.specs.Placing.{placed_entry, placed_all, text_part, data_part, texts, datas}
 use Rattle.aout_link.specs.Refusals.{twice_fault, twice_in, undefined_fault, undefined_in, object_fault, relocs_in}
 use Rattle.aout_link.specs.Sources.{Source}
-use Rattle.aout_link.specs.Tables.{entries_of, move_with, moved_entry, moved_all}
+use Rattle.aout_link.specs.NameTables.{entries_of, move_with, moved_entry, moved_all}
 use Rattle.aout_link.specs.declared.moves.Moves.{Moves}
 use Rattle.aout_link.specs.declared.moves.Starts.{Starts}
 use Rattle.aout_link.specs.declared.definitions.Known.{Known}

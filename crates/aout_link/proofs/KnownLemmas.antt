@@ -8,7 +8,7 @@ use Rattle.header_merge.proofs.FrontLemmas.{all_append}
 use Rattle.aout_link.specs.Sources.{Source}
 use Rattle.aout_link.specs.Moves.{fronts, all_moves}
 use Rattle.nlist_codec.specs.Kinds.{defines_name}
-use Rattle.aout_link.specs.Tables.{known_of, known_by, definitions, common_at, placed_commons, common_sizes, bss_end, moved_all, names_table}
+use Rattle.aout_link.specs.NameTables.{known_of, known_by, definitions, common_at, placed_commons, common_sizes, bss_end, moved_all, names_table}
 use Rattle.aout_link.specs.declared.definitions.Known.{Known}
 
 -- the kind of what a name stands for is such a kind

@@ -23,7 +23,7 @@ use Rattle.bincl_match.specs.Instances.{IsTaken, IsInstance}
 use Rattle.header_merge.specs.Merged.{merged}
 use Rattle.aout_link.specs.Sources.{Source, HasUnits}
 use Rattle.aout_link.specs.Moves.{all_moves}
-use Rattle.aout_link.specs.Tables.{names_table}
+use Rattle.aout_link.specs.NameTables.{names_table}
 use Rattle.aout_link.specs.Placing.{placed_all}
 use Rattle.aout_link.specs.Refusals.{list_fault}
 use Rattle.aout_link.specs.Linking.{IsGroupingOf, kept_from}

@@ -20,9 +20,9 @@ use Rattle.aout_object.specs.Decoding.{Answers}
 use Rattle.aout_object.specs.Making.{HasWholeName, kinds_checks, make_checks, made}
 use Rattle.aout_object.proofs.MakeLemmas.{make-size}
 use Rattle.header_merge.proofs.FrontLemmas.{all_append}
-use Rattle.aout_link.specs.Making.{parts_of, image_of, size_fault}
+use Rattle.aout_link.specs.ImageMaking.{parts_of, image_of, size_fault}
 use Rattle.aout_link.specs.Sources.{IsLawful}
-use Rattle.aout_link.specs.Tables.{names_of}
+use Rattle.aout_link.specs.NameTables.{names_of}
 use Rattle.aout_link.specs.Refusals.{PlacesTo}
 use Rattle.st_base.proofs.BytesLemmas.{length-bytes_of}
 use Rattle.st_base.specs.Number.{with_number_at, bytes_of}
@@ -34,13 +34,13 @@ use Rattle.reloc.specs.declared.reloc.Reloc.{Reloc}
 use Rattle.reloc.specs.Sums.{bytes_in, bits_in, sum_fits, field_sum, applied}
 use Rattle.aout_object.specs.Decoding.{fault_or}
 use Rattle.aout_object.specs.Objects.{is_accepted_kind}
-use Rattle.aout_link.specs.Making.{CanBeMade}
+use Rattle.aout_link.specs.ImageMaking.{CanBeMade}
 use Rattle.st_base.specs.Multiples.{aligned}
 use Rattle.aout_link.specs.Moves.{text_size, data_size, totals_of, all_moves}
 use Rattle.aout_link.specs.Placing.{Frame, text_frame, data_frame, IsPlaced, placed_entry, placed_all, amount, relocated, zeros_for, text_part, data_part, texts, datas}
 use Rattle.aout_link.specs.Refusals.{fault_in, twice_in, empty_fault, order_fault, machine_fault, address_fault, list_fault, undefined_in, check_in, is_lawful, reloc_checks, relocs_fault, text_fault, data_fault, object_fault, relocs_in}
 use Rattle.aout_link.specs.Sources.{Source, HasAcceptedKind}
-use Rattle.aout_link.specs.Tables.{known_by, common_sizes, commons_total, names_table, entries_of, moved_value}
+use Rattle.aout_link.specs.NameTables.{known_by, common_sizes, commons_total, names_table, entries_of, moved_value}
 use Rattle.aout_link.specs.declared.moves.Moves.{Moves}
 use Rattle.aout_link.specs.declared.definitions.Known.{Known}
 use Rattle.std.specs.List.{AllByRecursion}

@@ -16,7 +16,7 @@ use Rattle.bincl_match.specs.declared.range.Grouping.{Grouping}
 use Rattle.header_merge.specs.Merged.{change_of}
 use Rattle.header_merge.proofs.FrontLemmas.{all_append}
 use Rattle.aout_link.specs.Sources.{HasAcceptedKind}
-use Rattle.aout_link.specs.Making.{CanBeMade, size_fault}
+use Rattle.aout_link.specs.ImageMaking.{CanBeMade, size_fault}
 use Rattle.aout_link.specs.Refusals.{Refuses}
 use Rattle.aout_link.specs.Linking.{image_placed}
 use Rattle.aout_link.specs.declared.placed.Placed.{Placed}

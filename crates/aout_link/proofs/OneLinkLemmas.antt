@@ -24,12 +24,12 @@ use Rattle.bincl_match.proofs.FoundLemmas.{found_few, found_known}
 use Rattle.bincl_match.proofs.LawLemmas.{told_few}
 use Rattle.header_merge.specs.Merged.{merged}
 use Rattle.aout_link.specs.Linking.{KeepsWorld, IsGroupingOf, IsImageOf, IsLinked, IsPlanned, RefusesLink, image_end, image_placed, kept_from}
-use Rattle.aout_link.specs.Making.{CanBeMade, image_of, parts_of, size_fault}
+use Rattle.aout_link.specs.ImageMaking.{CanBeMade, image_of, parts_of, size_fault}
 use Rattle.aout_link.specs.Moves.{all_moves}
 use Rattle.aout_link.specs.Placing.{IsPlaced, bss_of, datas, placed_all, texts}
 use Rattle.aout_link.specs.Refusals.{list_fault}
 use Rattle.aout_link.specs.Sources.{HasUnits, IsLawful, Source}
-use Rattle.aout_link.specs.Tables.{entries_of, names_table}
+use Rattle.aout_link.specs.NameTables.{entries_of, names_table}
 use Rattle.aout_link.specs.declared.linking.Image.{Image}
 use Rattle.bincl_match.specs.declared.mode.Mode.{Mode}
 use Rattle.bincl_match.specs.declared.mode.Mode.TheVariants.{Keep, Merge}

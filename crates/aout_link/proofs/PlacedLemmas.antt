@@ -18,7 +18,7 @@ use Rattle.aout_link.specs.Placing.{placed_entry, placed_all, bss_of, IsPlaced, 
 use Rattle.aout_link.specs.Refusals.{twice_in, Refuses, undefined_in, end_fault, address_fault, place_fault, object_fault, relocs_in}
 use Rattle.aout_object.specs.declared.parts.Parts.{Parts}
 use Rattle.aout_link.specs.Sources.{Source}
-use Rattle.aout_link.specs.Tables.{is_common, defines, entries_of, commons_among, first_uses, names_of, greatest, common_sizes, commons_total, names_table}
+use Rattle.aout_link.specs.NameTables.{is_common, defines, entries_of, commons_among, first_uses, names_of, greatest, common_sizes, commons_total, names_table}
 use Rattle.aout_link.specs.declared.moves.Moves.{Moves}
 use Rattle.aout_link.specs.declared.definitions.Known.{Known}
 use Rattle.aout_link.specs.declared.moves.Totals.{Totals}

@@ -8,8 +8,6 @@ use Rattle.nlist_codec.specs.declared.named.Named.{Named}
 use Rattle.reloc.specs.declared.reloc.Reloc.{Reloc}
 use Rattle.aout_object.specs.Objects.{Contents, ObjectFits, IsReloc, IsAccepted, all_named, named_of}
 use Rattle.aout_object.specs.Making.{HasWholeName}
-use Rattle.st_base.specs.declared.fault.Fault.{Fault}
-use Rattle.stab_units.specs.ObjectUnits.{UnitsFault}
 use Rattle.aout_link.specs.Sources.{HasAcceptedKind, IsLawful}
 
 -- relocations that can be written have short fields
@@ -39,8 +37,7 @@ lawful_of o named is whole fits =
       machine = fits.header.order_told;
     }
 
--- the fault of the units of an object's entries, which have been named
-pub fault_told : (o : Contents) (named : List Named) (end : ℕ) (f : Fault) → named ≡ named_of o → end ≡ o.parts.entry + length o.parts.text
-    → UnitsFault end named f → UnitsFault (o.parts.entry + length o.parts.text) (named_of o) f
-fault_told o named end f is at h =
-    subst (λ (n : ℕ). UnitsFault n (named_of o) f) at (subst (λ (ns : List Named). UnitsFault end ns f) is h)
+-- what is told of an object's entries, which have been named, and of the end of its text
+pub told_of : (P : ℕ → List Named → Type 0) (o : Contents) (named : List Named) (end : ℕ) → named ≡ named_of o → end ≡ o.parts.entry + length o.parts.text
+    → P end named → P (o.parts.entry + length o.parts.text) (named_of o)
+told_of P o named end is at h = subst (λ (n : ℕ). P n (named_of o)) at (subst (λ (ns : List Named). P end ns) is h)

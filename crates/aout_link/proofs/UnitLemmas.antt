@@ -15,7 +15,7 @@ use Rattle.bincl_match.specs.declared.range.RangeOf.{RangeOf}
 use Rattle.aout_link.specs.Gathering.{AreAllFound}
 use Rattle.aout_link.specs.Sources.{Source, HasUnits, text_end}
 use Rattle.aout_link.specs.Moves.{all_moves}
-use Rattle.aout_link.specs.Tables.{known_by, moved_value, names_table}
+use Rattle.aout_link.specs.NameTables.{known_by, moved_value, names_table}
 use Rattle.aout_link.specs.Placing.{placed_entry, placed_all, with_known, IsPlaced}
 use Rattle.aout_link.specs.declared.definitions.Known.{Known}
 use Rattle.aout_link.specs.declared.moves.Moves.{Moves}

@@ -11,7 +11,7 @@ use Rattle.aout_link.specs.Moves.{totals_of, starts_of, moves_of, fronts}
 use Rattle.aout_link.specs.Placing.{Frame, placed_entry, amount, relocated, text_frame, data_frame, bss_of}
 use Rattle.aout_link.specs.Refusals.{defines_again, is_lacking, is_lawful, has_other_order, has_other_machine}
 use Rattle.aout_link.specs.Sources.{Source}
-use Rattle.aout_link.specs.Tables.{entries_of, commons_total, placed_commons, common_sizes, bss_end, names_table}
+use Rattle.aout_link.specs.NameTables.{entries_of, commons_total, placed_commons, common_sizes, bss_end, names_table}
 use Rattle.aout_link.specs.declared.moves.Moves.{Moves}
 use Rattle.aout_link.specs.declared.definitions.Known.{Known}
 use Rattle.st_base.specs.declared.sizes.TheConstants.{GREATEST_ADDRESS}
@@ -45,10 +45,10 @@ pub record Accepted (base : ℕ) (os : List Source) : Type 0 where
   pub relocs : (front : List Source) (o : Source) (back : List Source) → os ≡ front ++ o ∷ back
       → ObjectPasses (moves_of (starts_of base os) front o) (map (placed_entry (names_table base os) (moves_of (starts_of base os) front o)) o.named) o
 
--- commons one behind the other from an address on, at their sums as they are
+-- commons one behind the other from an address on, at their sums, not reduced modulo 2 ^ 32
 abbrev pub exact_commons : ℕ → List (List ℕ × ℕ) → List (List ℕ × Known)
 exact_commons start sizes = map (λ p. (p.1.0, record { kind = BSS_EXTERNAL; value = start + commons_total p.0 })) (fronts [] sizes)
 
--- the commons of objects stand at their sums, without a remainder
+-- the commons of objects stand at their sums, not reduced modulo 2 ^ 32
 abbrev pub HasExactCommons : ℕ → List Source → Type 0
 HasExactCommons base os = placed_commons (bss_end base os) (common_sizes os) ≡ exact_commons (bss_end base os) (common_sizes os)

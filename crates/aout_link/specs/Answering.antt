@@ -15,7 +15,7 @@ use Rattle.aout_link.specs.declared.moves.Totals.{Totals}
 use Rattle.aout_link.specs.declared.definitions.Known.{Known}
 use Rattle.aout_link.specs.declared.relocating.Segments.{Segments}
 use Rattle.aout_link.specs.Moves.{text_size, data_size, bss_size}
-use Rattle.aout_link.specs.Tables.{entries_of, moved_entry, moved_all, defines, definitions, known_by, common_sizes, commons_total, names_table}
+use Rattle.aout_link.specs.NameTables.{entries_of, moved_entry, moved_all, defines, definitions, known_by, common_sizes, commons_total, names_table}
 use Rattle.aout_link.specs.Placing.{Frame, placed_entry, placed_all, relocated, zeros_for, text_part, data_part}
 use Rattle.aout_link.specs.Refusals.{twice_fault, twice_in, undefined_fault, undefined_in, relocs_fault, object_fault, Refuses}
 

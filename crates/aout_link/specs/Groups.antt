@@ -6,7 +6,7 @@ use Rattle.aout_link.specs.Moves.{totals_of, starts_of, starts_behind, moves_bet
 use Rattle.aout_link.specs.Placing.{placed_all, texts, datas}
 use Rattle.aout_link.specs.Refusals.{twice_in, undefined_in, relocs_in}
 use Rattle.aout_link.specs.Sources.{Source}
-use Rattle.aout_link.specs.Tables.{entries_of, moved_entry, moved_all}
+use Rattle.aout_link.specs.NameTables.{entries_of, moved_entry, moved_all}
 use Rattle.aout_link.specs.declared.moves.Moves.{Moves}
 use Rattle.aout_link.specs.declared.moves.Starts.{Starts}
 use Rattle.aout_link.specs.declared.definitions.Known.{Known}

@@ -1,12 +1,12 @@
 pub mod Sources
 pub mod Moves
-pub mod Tables
+pub mod NameTables
 pub mod Placing
 pub mod Refusals
 pub mod Answering
-pub mod First
+pub mod FirstOfList
 pub mod Accepted
-pub mod Making
+pub mod ImageMaking
 pub mod Groups
 pub mod Linking
 pub mod Planning

@@ -18,7 +18,7 @@ use Rattle.header_merge.specs.Merged.{merged}
 use Rattle.aout_link.specs.Sources.{Source}
 use Rattle.aout_link.specs.Placing.{IsPlaced}
 use Rattle.aout_link.specs.Refusals.{list_fault}
-use Rattle.aout_link.specs.Making.{image_of, size_fault}
+use Rattle.aout_link.specs.ImageMaking.{image_of, size_fault}
 use Rattle.aout_link.specs.declared.placed.Placed.{Placed}
 use Rattle.aout_link.specs.declared.linking.Image.{Image}
 use Rattle.bincl_match.specs.declared.mode.Mode.{Mode}
@@ -30,7 +30,7 @@ use Rattle.bincl_match.specs.declared.mode.Mode.TheVariants.{Keep, Merge}
 abbrev pub image_end : Placed → ℕ
 image_end p = p.entry + length p.text
 
--- the ranges are grouped as the mode says: each is kept, or exactly the first of each greatest matching class
+-- the ranges are grouped as the mode says: each is kept, or exactly the first of each class of the greatest matching
 abbrev pub IsGroupingOf : Mode → List RangeOf → Grouping → Type 0
 IsGroupingOf Keep ranges g = IsAlone ranges g
 IsGroupingOf Merge ranges g = AreClasses ranges g
@@ -75,7 +75,7 @@ KeepsWorld end entries others = (world : World) → IsWorldOf end entries world 
 
 -- ---- linking
 
--- an image of objects: it fits a file, its world is that of what is placed, and no step was taken, since no string is parsed
+-- an image of objects: it fits a file, its world is that of what is placed, and `new` steps are as many as `old`, since no string is parsed
 pub record IsLinked (mode : Mode) (base : ℕ) (os : List Source) (old new : ℕ) (image : Image) : Type 0 where
   pub placed : Placed
   pub grouping : Grouping

@@ -14,7 +14,7 @@ use Rattle.aout_link.specs.declared.definitions.Known.{Known}
 use Rattle.aout_link.specs.declared.placed.Placed.{Placed}
 use Rattle.st_base.specs.Multiples.{aligned}
 use Rattle.aout_link.specs.Moves.{totals_of, all_moves}
-use Rattle.aout_link.specs.Tables.{move_with, moved_value, known_by, common_sizes, commons_total, names_table}
+use Rattle.aout_link.specs.NameTables.{move_with, moved_value, known_by, common_sizes, commons_total, names_table}
 
 -- ---- entries
 
@@ -51,7 +51,8 @@ pub record Frame : Type 0 where
   pub named : List Named
   pub placed : List Named
 
--- how far what a relocation names moves: its segment, or the value of its entry in the image
+-- what a relocation adds to its field where it is not relative to its place: how far the segment that it names moves, or the whole value
+-- in the image of the entry that it names
 abbrev pub target_of : Frame → Reloc → ℕ
 target_of f r = if r.external then value_at f.placed r.symbol else move_with f.moves (segment_of_bits r.symbol)
 

@@ -5,7 +5,7 @@ use Rattle.nlist_codec.specs.declared.named.Named.{Named}
 use Rattle.bincl_match.specs.Ranges.{AreRanges}
 use Rattle.bincl_match.specs.declared.range.RangeOf.{RangeOf}
 use Rattle.bincl_match.specs.declared.range.Grouping.{Grouping}
-use Rattle.aout_link.specs.Making.{size_fault}
+use Rattle.aout_link.specs.ImageMaking.{size_fault}
 use Rattle.aout_link.specs.Refusals.{Refuses}
 use Rattle.aout_link.specs.Linking.{IsGroupingOf, IsImageOf, image_placed}
 use Rattle.aout_link.specs.declared.placed.Placed.{Placed}

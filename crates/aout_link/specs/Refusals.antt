@@ -23,7 +23,7 @@ use Rattle.aout_link.specs.declared.definitions.Known.{Known}
 use Rattle.aout_link.specs.declared.placed.Placed.{Placed}
 use Rattle.aout_link.specs.Moves.{totals_of, all_moves}
 use Rattle.nlist_codec.specs.Kinds.{defines_name}
-use Rattle.aout_link.specs.Tables.{defines, known_by, common_sizes, commons_total, names_table}
+use Rattle.aout_link.specs.NameTables.{defines, known_by, common_sizes, commons_total, names_table}
 use Rattle.aout_link.specs.Placing.{Frame, placed_entry, amount, text_frame, data_frame, IsPlaced}
 
 -- the fault with this number at a part of an object: the object's number, and within it the part's

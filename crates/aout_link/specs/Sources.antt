@@ -9,7 +9,7 @@ use Rattle.aout_object.specs.Making.{HasWholeName}
 use Rattle.stab_units.specs.declared.unit.Unit.{Unit}
 use Rattle.stab_units.specs.ObjectUnits.{AreUnits}
 
--- an object as it was given, its segments with their relocations, and its entries with their names, in order
+-- an object to be linked as it was given, its segments with their relocations, and its entries with their names, in order
 pub record Source : Type 0 where
   pub object : Contents
   pub parts : Parts
@@ -19,7 +19,7 @@ pub record Source : Type 0 where
 abbrev pub HasAcceptedKind : Named → Type 0
 HasAcceptedKind n = IsTrue (is_accepted_kind n.kind)
 
--- what holds of each object that a file can spell: its addresses are words, its relocations have fields of at most four bytes, its
+-- what holds of each object that a file can spell: its addresses are below 2 ^ 32, its relocations have fields of at most four bytes, its
 -- names hold no zero byte, its kinds are accepted, and its machine word tells the byte order
 pub record IsLawful (o : Source) : Type 0 where
   pub address : o.parts.entry + length o.parts.text + length o.parts.data_part + o.parts.bss < 2 ^ 32

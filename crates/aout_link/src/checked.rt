@@ -2,7 +2,7 @@ ghost use Rattle.std.specs.Prelude.{◌≡◌, ◌+◌, ◌<◌, ◌^◌, length
 ghost use Rattle.st_base.specs.declared.fault.Fault.{Fault};
 ghost use Rattle.st_base.specs.declared.fault.Refused.{Refused};
 ghost use Rattle.aout_object.specs.Objects.{named_of};
-ghost use Rattle.stab_units.specs.ObjectUnits.{UnitsFault, strings_in};
+ghost use Rattle.stab_units.specs.ObjectUnits.{UnitsFault, UnitsFaultAfter, strings_in};
 ghost use Rattle.bincl_match.specs.Ranges.{AreFound};
 ghost use Rattle.aout_link.specs.Sources.{IsLawful, HasUnits, text_end};
 
@@ -52,10 +52,11 @@ impl Checked {
     /// The object with its entries named, whose entries have units, and with its header ranges, as `find_ranges` finds them.
     ///
     /// Refused with the fault of the outline of its entries, else with the fault of the first string that spells no symbol, as by
-    /// `units`; the object is dropped then. Each string is parsed once here, which takes a step, and linking parses no string again. What
-    /// is kept is the entries with their names and the ranges: of each symbol of a header its shape, which is about as long as its string,
-    /// and the files of its pairs. Takes memory for these, and for one unit at a time while it is read; out of memory is an answer of its
-    /// own. After "The stabs debug format".
+    /// `units`; the object is dropped then. Each string is parsed once here, which takes a step, and linking parses no string again; where
+    /// a string is refused, a step was taken for each up to and with it, and none where the outline is. What is kept is the entries with
+    /// their names and the ranges: of each symbol of a header its shape, which is about as long as its string, and the files of its pairs.
+    /// Takes memory for these, and for one unit at a time while it is read; out of memory is an answer of its own. After "The stabs debug
+    /// format".
     pub fn of<L: Ledger>(
         alloc: Global,
         object: Object,
@@ -66,6 +67,7 @@ impl Checked {
         ensures named { IfOk result (λ s. s.named ≡ named_of object) }
         ensures units { IfOk result HasUnits }
         ensures refused { (f : Fault) → result ≡ Err (Refused.At f) → UnitsFault (object.parts.entry + length object.parts.text) (named_of object) f }
+        ensures stopped { (f : Fault) → result ≡ Err (Refused.At f) → UnitsFaultAfter (object.parts.entry + length object.parts.text) (named_of object) f steps.old steps.new }
         ensures ticks { IfOk result (λ s. steps.new ≡ steps.old + strings_in (object.parts.entry + length object.parts.text) (named_of object)) }
     {
         let Ok(named) = entries_of(alloc, &object) else {

@@ -1,8 +1,8 @@
 ghost use Rattle.std.specs.Prelude.{◌≡◌, ◌<◌, ◌^◌, ◌++◌, max, unwrap_or, List, IfOk, OnOk, bytes_eq};
 ghost use Rattle.indexmap.specs.IndexMap.{insert_entry};
 ghost use Rattle.nlist_codec.specs.declared.named.Named.{Named as NamedEntry};
-ghost use Rattle.aout_link.specs.Tables as spec;
-ghost use Rattle.aout_link.specs.Tables.{known_by, entries_of};
+ghost use Rattle.aout_link.specs.NameTables as spec;
+ghost use Rattle.aout_link.specs.NameTables.{known_by, entries_of};
 ghost use Rattle.aout_link.specs.Answering.{listed, Tells, AreNew};
 
 use crate::checked::Checked;

@@ -1,7 +1,7 @@
 ghost use Rattle.std.specs.Prelude.{◌≡◌, ◌++◌, ◌∷◌, [], List, length, true, not, is_some, IfOk};
 ghost use Rattle.nlist_codec.specs.declared.named.Named.{Named as NamedEntry};
-ghost use Rattle.aout_link.specs.Tables as spec;
-ghost use Rattle.aout_link.specs.Tables.{known_by};
+ghost use Rattle.aout_link.specs.NameTables as spec;
+ghost use Rattle.aout_link.specs.NameTables.{known_by};
 ghost use Rattle.aout_link.specs.Answering.{listed, Tells, Defines, FindsAll};
 
 use crate::checked::Checked;

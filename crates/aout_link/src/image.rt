@@ -1,7 +1,7 @@
 ghost use Rattle.std.specs.Prelude.{◌≡◌, IfOk};
 ghost use Rattle.aout_object.specs.Objects.{named_of};
 ghost use Rattle.aout_object.specs.Decoding.{Answers};
-ghost use Rattle.aout_link.specs.Making.{CanBeMade, image_of, size_fault};
+ghost use Rattle.aout_link.specs.ImageMaking.{CanBeMade, image_of, size_fault};
 
 use crate::placed::Placed;
 use aout_object::{Object, Parts};

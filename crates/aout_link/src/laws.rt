@@ -13,9 +13,9 @@ ghost use Rattle.aout_link.specs.Groups.{InGroups, AreWords, MovesAtOnce, Entrie
 ghost use Rattle.aout_link.specs.Placing.{Frame as FrameValue};
 ghost use Rattle.aout_link.specs.Refusals.{list_fault, first_that, twice_fault, twice_in, undefined_fault, undefined_in, relocs_fault, relocs_in};
 ghost use Rattle.aout_link.specs.Accepted.{Accepted, HasExactCommons};
-ghost use Rattle.aout_link.specs.First as first;
-ghost use Rattle.aout_link.specs.First.{HasFirst, stages, stage_fault, difference, object_twice, object_undefined, object_relocs, reloc_fault};
-ghost use Rattle.aout_link.specs.Tables.{entries_of};
+ghost use Rattle.aout_link.specs.FirstOfList as first;
+ghost use Rattle.aout_link.specs.FirstOfList.{HasFirst, stages, stage_fault, difference, object_twice, object_undefined, object_relocs, reloc_fault};
+ghost use Rattle.aout_link.specs.NameTables.{entries_of};
 ghost use Rattle.aout_link.specs.Linking.{IsLinked, RefusesLink};
 ghost use Rattle.aout_link.specs.declared.linking.Image.{Image as ImageValue};
 ghost use Rattle.bincl_match.specs.declared.mode.Mode.{Mode};

@@ -20,7 +20,7 @@ ghost use Rattle.bincl_match.specs.Lawful.{IsLawful};
 ghost use Rattle.bincl_match.specs.Ranges.{AreFoundButUnits};
 ghost use Rattle.aout_link.specs.Placing.{IsPlaced};
 ghost use Rattle.aout_link.specs.Refusals.{list_fault};
-ghost use Rattle.aout_link.specs.Making.{CanBeMade};
+ghost use Rattle.aout_link.specs.ImageMaking.{CanBeMade};
 ghost use Rattle.header_merge.specs.Merged.{merged};
 ghost use Rattle.aout_link.specs.Linking.{KeepsWorld, IsGroupingOf, IsPlanned, Links, image_end, image_placed, kept_from};
 ghost use Rattle.aout_link.specs.Planning.{IsGrouped, Makes};
@@ -203,10 +203,10 @@ fn make_merged(alloc: Global, placed: Placed, grouping: &Grouping) -> Result<Ima
 /// `TOO_LARGE` with place 4,294,967,295, and relocation by relocation `OUTSIDE`, `SYMBOL` and `OVERFLOW`. An accepted list is refused with
 /// `TOO_LARGE` and place 134,217,728 where the image's file would have more bytes. Stabs give no refusal, since the objects have units.
 ///
-/// No string is parsed, and no step is taken: `Checked::of` has read each string and kept the ranges of its object. Copies of these, one
-/// behind the other, are the ranges of the placed entries. Takes memory for the placed segments and entries, for the copies and the
-/// ranges, and for the entries of the image and the image; out of memory is an answer of its own, and that of 2^32 placed entries or
-/// more. After a.out(5) and "The stabs debug format".
+/// No string is parsed, and no step is taken, whatever is answered: `Checked::of` has read each string and kept the ranges of its
+/// object. Copies of these, one behind the other, are the ranges of the placed entries. Takes memory for the placed segments and
+/// entries, for the copies and the ranges, and for the entries of the image and the image; out of memory is an answer of its own, and
+/// that of 2^32 placed entries or more. After a.out(5) and "The stabs debug format".
 pub fn link<L: Ledger>(
     alloc: Global,
     objects: &List<Checked>,
@@ -214,7 +214,8 @@ pub fn link<L: Ledger>(
     mode: Mode,
     steps: &mut Steps<L>,
 ) -> Result<Image, Refused>
-    ensures { Links mode base objects.now steps.old steps.new result }
+    ensures links { Links mode base objects.now steps.old steps.new result }
+    ensures still { steps.new ≡ steps.old }
 {
     let Plan { placed, grouping } = match make_plan(alloc, objects.items(), base, mode) {
         Ok(plan) => plan,

@@ -1,6 +1,6 @@
 ghost use Rattle.std.specs.Prelude.{◌≡◌, ◌<◌, ◌^◌, slice_get, All, IfOk, Some};
 ghost use Rattle.aout_link.specs.Sources.{IsLawful};
-ghost use Rattle.aout_link.specs.Making.{CanBeMade};
+ghost use Rattle.aout_link.specs.ImageMaking.{CanBeMade};
 ghost use Rattle.aout_link.specs.Moves.{totals_of, all_moves};
 ghost use Rattle.aout_link.specs.Refusals.{place_fault, list_fault, PlacesTo};
 ghost use Rattle.aout_link.specs.Answering.{AreSmall, NamesFound};

@@ -5,7 +5,7 @@ ghost use Rattle.st_base.specs.declared.fault.Refused.TheVariants as refused;
 ghost use Rattle.reloc.specs.Sums.{applied, bytes_in};
 ghost use Rattle.stab_codes.specs.Segments.{segment_of_bits};
 ghost use Rattle.st_base.specs.Multiples.{aligned};
-ghost use Rattle.aout_link.specs.Tables as tables;
+ghost use Rattle.aout_link.specs.NameTables as tables;
 ghost use Rattle.aout_link.specs.Placing as spec;
 ghost use Rattle.aout_link.specs.Refusals as refusals;
 ghost use Rattle.aout_link.specs.Answering.{Appends, AppendsObject, PlacesSegments};

@@ -1,15 +1,22 @@
 -- A name stands for the first statement that defines it, and the table of a source is what its statements say by their positions.
 use Rattle.std.proofs.Common.{◌≡◌, ◌≢◌, ◌⊎◌, ℕ, zero, suc, Bool, true, cond, List, [], ◌∷◌, ◌++◌, take, slice_get, fold, flat_map, Option, None, Some, is_some, refl, sym, ap, subst, ◌∙◌, inl, inr, arith}
+use Rattle.std.specs.Prelude.{Contains, ◌↔◌}
+use Rattle.std.specs.List.{list_any}
 use Rattle.std.specs.Map.{lookup}
 use Rattle.std.specs.Str.{bytes_eq}
 use Rattle.std.proofs.lemmas.Bool.{cases_Bool, true≢false}
 use Rattle.std.proofs.lemmas.List.{length-take-le}
+use Rattle.std.proofs.lemmas.List.Elements.{Contains-append_left, Contains-append_right, Contains-append_cases}
 use Rattle.std.proofs.lemmas.Option.{none-some, same_Some, slice_get_within}
 use Rattle.std.proofs.lemmas.Slice.Eq.{bytes_eq-Decides}
-use Rattle.asm_objects.specs.Layout.{after, aligned, bss_size, defined, each, end_of, entry_word, home_of, last, machine_word, offset_in, start, table_of}
-use Rattle.asm_objects.specs.Names.{with_first}
-use Rattle.asm_objects.specs.Positions.{last_or, defined_name, Defines, IsNowhere, IsDefinition, IsPlace, IsTable}
+use Rattle.st_base.specs.Multiples.{aligned}
+use Rattle.asm_objects.specs.Layout.{after, bss_size, defined, each, end_of, entry_word, global, home_of, last, machine_word, offset_in, start, table_of}
+use Rattle.st_base.specs.FirstUses.{used}
+use Rattle.asm_objects.specs.DefinedNames.{same_name}
+use Rattle.asm_objects.specs.Positions.{last_or, defined_name, Defines, IsGlobal, IsNowhere, IsDefinition, IsPlace, IsTable}
+use Rattle.asm_objects.proofs.NameLemmas.{any-lookup}
 use Rattle.asm_objects.proofs.PositionLemmas.{four, last_is, placed}
+use Rattle.asm_objects.proofs.WordLemmas.{none_in, one_in_has, one_in_is, words_have, words_in}
 use Rattle.asm_statements.specs.declared.statement.Statement.{Statement}
 use Rattle.asm_statements.specs.declared.statement.What.{What}
 use Rattle.asm_statements.specs.declared.statement.What.TheVariants as what
@@ -38,26 +45,26 @@ lookup-append test (x ∷ xs) ys =
     elim (cases_Bool (test x.0)) [ inl h ↦ rw h refl | inr h ↦ rw h (lookup-append test xs ys) ]
 
 -- a name that is looked up where it is kept once
-with_first_found : {V : Type 0} (name : List ℕ) (xs : List (List ℕ × V)) (x : List ℕ × V)
-    → lookup (bytes_eq name) (with_first xs x) ≡ or_else (lookup (bytes_eq name) xs) (lookup (bytes_eq name) (x ∷ []))
-with_first_found {V} name xs x = elim (cases_Bool (is_some (lookup (bytes_eq x.0) xs))) [ inl h ↦ rw h (there h) | inr h ↦ rw h (lookup-append (bytes_eq name) xs (x ∷ [])) ]
+used_found : {V : Type 0} (name : List ℕ) (xs : List (List ℕ × V)) (x : List ℕ × V)
+    → lookup (bytes_eq name) (used same_name xs x) ≡ or_else (lookup (bytes_eq name) xs) (lookup (bytes_eq name) (x ∷ []))
+used_found {V} name xs x = elim (cases_Bool (list_any (same_name x) xs)) [ inl h ↦ rw h (there h) | inr h ↦ rw h (lookup-append (bytes_eq name) xs (x ∷ [])) ]
   where
     filled : (o : Option V) (b : Bool) → is_some o ≡ true → o ≡ or_else o (cond b (Some x.1) None)
     filled None b h = absurd (true≢false (sym h))
     filled (Some v) b h = refl
 
-    there : is_some (lookup (bytes_eq x.0) xs) ≡ true → lookup (bytes_eq name) xs ≡ or_else (lookup (bytes_eq name) xs) (cond (bytes_eq name x.0) (Some x.1) None)
+    there : list_any (same_name x) xs ≡ true → lookup (bytes_eq name) xs ≡ or_else (lookup (bytes_eq name) xs) (cond (bytes_eq name x.0) (Some x.1) None)
     there h =
         elim (cases_Bool (bytes_eq name x.0)) [
-          | inl same ↦ let is : x.0 ≡ name = sym ((bytes_eq-Decides name x.0).0 same) in filled (lookup (bytes_eq name) xs) (bytes_eq name x.0) (rw is at h)
+          | inl same ↦ let is : x.0 ≡ name = sym ((bytes_eq-Decides name x.0).0 same) in filled (lookup (bytes_eq name) xs) (bytes_eq name x.0) (rw is at (sym (any-lookup (bytes_eq x.0) xs) ∙ h))
           | inr other ↦ rw other (sym (or_none (lookup (bytes_eq name) xs)))
         ]
 
 all_first_found : {V : Type 0} (name : List ℕ) (old xs : List (List ℕ × V))
-    → lookup (bytes_eq name) (fold with_first old xs) ≡ or_else (lookup (bytes_eq name) old) (lookup (bytes_eq name) xs)
+    → lookup (bytes_eq name) (fold (used same_name) old xs) ≡ or_else (lookup (bytes_eq name) old) (lookup (bytes_eq name) xs)
 all_first_found name old [] = sym (or_none (lookup (bytes_eq name) old))
 all_first_found name old (x ∷ xs) =
-    all_first_found name (with_first old x) xs ∙ ap (λ (o : Option _). or_else o (lookup (bytes_eq name) xs)) (with_first_found name old x)
+    all_first_found name (used same_name old x) xs ∙ ap (λ (o : Option _). or_else o (lookup (bytes_eq name) xs)) (used_found name old x)
     ∙ or_assoc (lookup (bytes_eq name) old) (lookup (bytes_eq name) (x ∷ [])) (lookup (bytes_eq name) xs) ∙ ap (or_else (lookup (bytes_eq name) old)) (sym (lookup-append (bytes_eq name) (x ∷ []) xs))
 
 -- ---- the definition of one statement
@@ -160,7 +167,7 @@ nowhere p (x ∷ ss) name e =
     let both = or_neither _ _ (sym (lookup-append (bytes_eq name) (defined p x.what) (each defined (after p x) ss)) ∙ e) in
     nowhere_more name x ss (not_here name p x.what both.0) (nowhere (after p x) ss name both.1)
 
--- ---- the table
+-- ---- the definitions of a source
 
 is_definition : (ss : List Statement) (name : List ℕ) (d : Definition) → lookup (bytes_eq name) (table_of ss).names ≡ Some d → IsDefinition ss name d
 is_definition ss name d e =
@@ -185,6 +192,36 @@ is_definition ss name d e =
 is_nowhere : (ss : List Statement) (name : List ℕ) → lookup (bytes_eq name) (table_of ss).names ≡ None → IsNowhere ss name
 is_nowhere ss name e = nowhere start ss name (sym (all_first_found name [] (each defined start ss)) ∙ e)
 
+-- ---- the names that `.globl` gives
+
+global_is : (name : List ℕ) (w : What) → Contains (global w) name → w ≡ what.Globl name
+global_is name (what.Globl own) h = ap what.Globl (one_in_is own name h)
+global_is name _ h = absurd (none_in name h)
+
+globals_are : (name : List ℕ) (p : Places) (ss : List Statement) → Contains (each (λ p. global) p ss) name → IsGlobal ss name
+globals_are name p [] h = absurd (none_in name h)
+globals_are name p (x ∷ ss) h =
+    elim (Contains-append_cases (global x.what) (each (λ p. global) (after p x) ss) name h) [
+      | inl now ↦ (0, x, refl, global_is name x.what now)
+      | inr later ↦ let is = globals_are name (after p x) ss later in (suc is.0, is.1, is.2, is.3)
+    ]
+
+globals_have : (name : List ℕ) (p : Places) (ss : List Statement) (n : ℕ) (s : Statement) → slice_get ss n ≡ Some s → s.what ≡ what.Globl name → Contains (each (λ p. global) p ss) name
+globals_have name p [] n s at is = absurd (none-some s at)
+globals_have name p (x ∷ ss) zero s at is =
+    let same : x ≡ s = same_Some x s at in
+    let here : x.what ≡ what.Globl name = ap (λ (y : Statement). y.what) same ∙ is in
+    Contains-append_left (global x.what) (each (λ p. global) (after p x) ss) name (rw here (one_in_has name name refl))
+globals_have name p (x ∷ ss) (suc n) s at is = Contains-append_right (global x.what) (each (λ p. global) (after p x) ss) name (globals_have name (after p x) ss n s at is)
+
+are_globals : (ss : List Statement) (name : List ℕ) → Contains (table_of ss).globals name ↔ IsGlobal ss name
+are_globals ss name = (
+  λ h. elim (words_in [] (each (λ p. global) start ss) name h) [ inl none ↦ absurd (none_in name none) | inr there ↦ globals_are name start ss there ],
+  λ h. words_have [] (each (λ p. global) start ss) name (inr (globals_have name start ss h.0 h.1 h.2 h.3)),
+)
+
+-- ---- the last words
+
 words_are : (f : What → List ℕ) (p : Places) (ss : List Statement) → each (λ p. f) p ss ≡ flat_map (λ s. f s.what) ss
 words_are f p [] = refl
 words_are f p (s ∷ ss) = ap (λ (l : List ℕ). f s.what ++ l) (words_are f (after p s) ss)
@@ -192,11 +229,14 @@ words_are f p (s ∷ ss) = ap (λ (l : List ℕ). f s.what ++ l) (words_are f (a
 last_word : (f : What → List ℕ) (ss : List Statement) → fold last 0 (each (λ p. f) start ss) ≡ last_or 0 (flat_map (λ s. f s.what) ss)
 last_word f ss = ap (fold last 0) (words_are f start ss) ∙ last_is 0 (flat_map (λ (s : Statement). f s.what) ss)
 
+-- ---- the table
+
 pub table_is : (ss : List Statement) → IsTable ss (table_of ss)
 table_is ss = record {
   end = placed ss;
   defined = is_definition ss;
   undefined = is_nowhere ss;
+  globals = are_globals ss;
   entry = last_word entry_word ss;
   machine = last_word machine_word ss;
   bsize = last_word bss_size ss;

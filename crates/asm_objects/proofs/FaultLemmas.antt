@@ -5,7 +5,7 @@ use Rattle.std.proofs.lemmas.Bool.Decides.{nat_tests}
 use Rattle.std.proofs.lemmas.Option.{none-some}
 use Rattle.st_base.specs.declared.fault.Fault.{Fault}
 use Rattle.asm_objects.specs.Meaning.{is_later, earlier, faults, fault_of, at_line, first_fault_of}
-use Rattle.asm_objects.specs.First.{HasFault, IsFirst}
+use Rattle.asm_objects.specs.FirstOfSource.{HasFault, IsFirst}
 use Rattle.asm_objects.specs.Layout.{after, table_of, start}
 use Rattle.asm_objects.specs.declared.table.Places.{Places}
 use Rattle.asm_objects.specs.declared.table.Table.{Table}

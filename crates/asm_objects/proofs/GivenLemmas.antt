@@ -1,6 +1,9 @@
 -- What each statement gives stands in the object at its place.
-use Rattle.std.proofs.Common.{◌≡◌, ℕ, zero, suc, ◌+◌, List, [], ◌∷◌, ◌++◌, length, take, sum, slice_get, map, Some, refl, sym, ap, subst, ◌∙◌, arith, append_assoc, length-append}
-use Rattle.std.specs.Prelude.{option_map}
+use Rattle.std.proofs.Common.{◌≡◌, ℕ, zero, suc, ◌+◌, List, [], ◌∷◌, ◌++◌, length, take, sum, slice_get, map, Some, refl, sym, ap, subst, ◌∙◌, arith, append_assoc, length-append, inl, inr}
+use Rattle.std.specs.Prelude.{◌↔◌, option_map}
+use Rattle.std.specs.List.{list_any}
+use Rattle.std.specs.Str.{bytes_eq}
+use Rattle.std.proofs.lemmas.Bool.{cases_Bool}
 use Rattle.std.proofs.lemmas.List.{length-map}
 use Rattle.std.proofs.lemmas.List.Sums.{sum_by-cons}
 use Rattle.std.proofs.lemmas.Option.{none-some, same_Some, slice_get-map}
@@ -9,12 +12,15 @@ use Rattle.st_base.specs.declared.order.Order.{Order}
 use Rattle.reloc.specs.declared.reloc.Reloc.{Reloc}
 use Rattle.asm_objects.specs.Given.{AreRelocs, IsMade, StandsAt, bytes_of, one_alone, one_in, relocs_given, relocs_of}
 use Rattle.asm_objects.specs.Layout.{after, each, end_of, reached, start, table_of}
-use Rattle.asm_objects.specs.Making.{entries_by, entries_of, parts_by, parts_of}
-use Rattle.asm_objects.specs.Meaning.{bytes_in, entries_in, if_in, reloc_part, relocs_in, relocs_of as relocs_by, undefined_entry, undefined_of}
+use Rattle.asm_objects.specs.SourceMaking.{entries_by, entries_of, parts_by, parts_of}
+use Rattle.asm_objects.specs.Meaning.{bytes_in, entries_in, ext, if_in, reloc_part, relocs_in, relocs_of as relocs_by, undefined_entry, undefined_of}
+use Rattle.asm_objects.specs.Positions.{IsGlobal, IsTable}
 use Rattle.asm_objects.proofs.DefinitionLemmas.{table_is}
 use Rattle.asm_objects.proofs.PositionLemmas.{part_is, placed}
 use Rattle.asm_objects.proofs.SizeLemmas.{length-data, length-entries, length-text}
 use Rattle.asm_objects.proofs.UndefinedLemmas.{undefined_are}
+use Rattle.asm_objects.proofs.WordLemmas.{any_has}
+use Rattle.strtab.proofs.NamesLemmas.{found-Contains}
 use Rattle.asm_statements.specs.declared.statement.Name.{Name}
 use Rattle.asm_statements.specs.declared.statement.Part.{Part}
 use Rattle.asm_statements.specs.declared.statement.Part.TheVariants as part
@@ -133,6 +139,29 @@ relocs_are t u q before = record {
   is = sum-counts t u q start before;
 }
 
+-- ---- names for all objects
+
+module _ (ss : List Statement) (t : Table) (tabled : IsTable ss t) (name : List ℕ) where
+  -- the bit is set exactly where a `.globl` names it
+  external_is : (ext t name ≡ 1) ↔ IsGlobal ss name
+  external_is = (
+    λ e. elim (cases_Bool (list_any (bytes_eq name) t.globals)) [
+      | inl there ↦ (tabled.globals name).0 (any_has name t.globals there)
+      | inr absent ↦ absurd (zero-one (rw absent at e))
+    ],
+    λ h. rw (found-Contains name t.globals ((tabled.globals name).1 h)) refl,
+  )
+    where
+      zero-one : ◌≡◌ {A = ℕ} 0 1 → ⊥
+      zero-one e = omega (arith, e)
+
+  internal_is : (IsGlobal ss name → ⊥) → ext t name ≡ 0
+  internal_is not =
+      elim (cases_Bool (list_any (bytes_eq name) t.globals)) [
+        | inl there ↦ absurd (not ((tabled.globals name).0 (any_has name t.globals there)))
+        | inr absent ↦ rw absent refl
+      ]
+
 -- ---- the object
 
 module _ (order : Order) (ss : List Statement) (t : Table) (u : List (List ℕ)) (n : ℕ) (s : Statement) (at : slice_get ss n ≡ Some s) where
@@ -194,6 +223,8 @@ object_made order ss =
       data_relocs = relocs_are t u part.Data ss;
       relocs = λ n s at. (end_of start (take n ss), placed (take n ss), relocs_there order ss t u n s at _ refl);
       entries = λ n s at. (end_of start (take n ss), placed (take n ss), entries_there order ss t u n s at);
+      external = external_is ss (table_of ss) (table_is ss);
+      internal = internal_is ss (table_of ss) (table_is ss);
       count =
           let here = length-entries t start ss in
           let both = length-append (each (entries_in t) start ss) (map undefined_entry u) in

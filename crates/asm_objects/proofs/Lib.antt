@@ -11,6 +11,9 @@ mod PositionExamples
 pub mod PositionLemmas
 pub mod RelocLemmas
 pub mod SizeLemmas
+mod SourceExamples
 pub mod TableLemmas
 pub mod UndefinedLemmas
+pub mod UniqueLemmas
+pub mod WordLemmas
 pub mod ZeroLemmas

@@ -23,7 +23,8 @@ use Rattle.aout_object.specs.Making.{HasWholeName, made, make_checks, kinds_chec
 use Rattle.aout_object.specs.declared.parts.Parts.{Parts}
 use Rattle.aout_object.proofs.MakeLemmas.{length-file_of}
 use Rattle.aout_object.proofs.StepLemmas.{first_fault-append}
-use Rattle.asm_objects.specs.Making.{parts_by, entries_by, parts_of, entries_of, object_of}
+use Rattle.aout_layout.specs.declared.header.TheConstants.{TWO_ORDERS}
+use Rattle.asm_objects.specs.SourceMaking.{parts_by, entries_by, parts_of, entries_of, object_of}
 use Rattle.asm_objects.specs.Emitting.{Left, Passed, Within, limit_checks}
 use Rattle.asm_objects.specs.Layout.{start, table_of, each}
 use Rattle.asm_objects.specs.Meaning.{undefined_of, undefined_entry, entries_in}
@@ -141,7 +142,7 @@ module _ (order : Order) (ss : List Statement) (t : Table) (u : List (List ℕ))
         All-from_recursion RelocFits _ (all_relocs_fit part.Data t u ss within passed.left),
       )
 
-  pub passed_machine : (parts : Parts) → parts ≡ parts_by order t u ss → Within t (length u) → parts.machine ≢ 1793
+  pub passed_machine : (parts : Parts) → parts ≡ parts_by order t u ss → Within t (length u) → parts.machine ≢ TWO_ORDERS
   passed_machine parts is within = rw is within.told
 
   -- what is made is the object

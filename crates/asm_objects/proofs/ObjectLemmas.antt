@@ -16,7 +16,7 @@ use Rattle.aout_object.specs.Making.{kinds_checks}
 use Rattle.asm_objects.specs.Emitting.{Left, Stands}
 use Rattle.asm_statements.specs.Fits.{StatementFits, AllFit, NamesFit}
 use Rattle.asm_objects.specs.Layout.{after, each, home_of, is_local, start}
-use Rattle.asm_objects.specs.Names.{with_word}
+use Rattle.st_base.specs.FirstUses.{used}
 use Rattle.asm_objects.specs.Meaning.{kind_of, ranged, is_accepted, byte_of, has_no_zero, stab_fits, in_byte, in_range, entries_in, unless_local, undefined_entry, outer, outer_of, if_undefined, undefined_of}
 use Rattle.asm_statements.specs.declared.statement.Part.{Part}
 use Rattle.asm_statements.specs.declared.statement.Part.TheVariants as part
@@ -136,10 +136,10 @@ all_outers t [] fits = tt
 all_outers t (s ∷ ss) fits = all-append HasNoZero (outer t s.what) (flat_map (λ s. outer t s.what) ss) (all_outer t s.what fits.0) (all_outers t ss fits.1)
 
 -- distinct names are among the names
-all-with_word : (names words : List (List ℕ)) → AllByRecursion HasNoZero names → AllByRecursion HasNoZero words → AllByRecursion HasNoZero (fold with_word names words)
-all-with_word names [] fits more = fits
-all-with_word names (w ∷ words) fits more =
-    all-with_word (with_word names w) words
+all-used : (names words : List (List ℕ)) → AllByRecursion HasNoZero names → AllByRecursion HasNoZero words → AllByRecursion HasNoZero (fold (used bytes_eq) names words)
+all-used names [] fits more = fits
+all-used names (w ∷ words) fits more =
+    all-used (used bytes_eq names w) words
     (elim (cases_Bool (list_any (bytes_eq w) names)) [ inl h ↦ rw h fits | inr h ↦ rw h (all-append HasNoZero names (w ∷ []) fits (more.0, tt)) ]) more.1
 
 -- their entries
@@ -151,7 +151,7 @@ undefined_good (name ∷ names) fits = (record { kind = refl; name = fits.0 }, u
 pub all_good : (t : Table) (ss : List Statement) → Left t start ss → AllByRecursion IsGood (each (entries_in t) start ss ++ map undefined_entry (undefined_of t ss))
 all_good t ss left =
     all-append IsGood (each (entries_in t) start ss) (map undefined_entry (undefined_of t ss)) (all_each IsGood (entries_in t) t (entries_good t) start ss left)
-    (undefined_good (undefined_of t ss) (all-with_word [] (flat_map (λ s. outer t s.what) ss) tt (all_outers t ss left.fits)))
+    (undefined_good (undefined_of t ss) (all-used [] (flat_map (λ s. outer t s.what) ss) tt (all_outers t ss left.fits)))
 
 -- their kinds are accepted
 pub good_kinds : (place : ℕ) (named : List Named') → AllByRecursion IsGood named → first_fault (kinds_checks place named) ≡ None

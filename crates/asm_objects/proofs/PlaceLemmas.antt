@@ -1,17 +1,20 @@
 -- One step of a pass: what is done and what is left make the whole before and after a statement, and offsets and places have room.
-use Rattle.std.proofs.Common.{◌≡◌, ℕ, ◌+◌, ◌*◌, ◌^◌, ◌%◌, ◌<◌, ◌≤◌, Bool, List, [], ◌∷◌, ◌++◌, length, get_or, drop, suc, sym, ap, subst, ◌∙◌, inl, inr, arith, add-one, drop-cons, append_assoc, fold, Option, None, Some, is_some}
+use Rattle.std.proofs.Common.{◌≡◌, ℕ, ◌+◌, ◌*◌, ◌^◌, ◌%◌, ◌<◌, ◌≤◌, Bool, List, [], ◌∷◌, ◌++◌, length, get_or, drop, suc, sym, ap, subst, ◌∙◌, inl, inr, arith, add-one, drop-cons, append_assoc, fold, Option, None, Some}
 use Rattle.std.proofs.Math.Pow.{pow_mono}
 use Rattle.std.proofs.lemmas.Bool.{cases_Bool}
 use Rattle.std.proofs.lemmas.Option.{none-some}
 use Rattle.std.proofs.lemmas.List.Sums.{fold-append}
+use Rattle.std.specs.List.{list_any}
 use Rattle.std.specs.Map.{lookup}
 use Rattle.std.specs.Str.{bytes_eq}
 use Rattle.std.specs.Vec.Iter.{into_iter_items, into_iter_steps}
 use Rattle.std.specs.declared.vec.IntoIter.{IntoIter}
 use Rattle.asm_objects.specs.Emitting.{OffsetsFit, TableFits}
+use Rattle.asm_objects.specs.declared.limits.TheConstants.{GREATEST_POWER}
 use Rattle.asm_objects.specs.Layout.{Room, after, each, reached}
 use Rattle.asm_objects.specs.Meaning.{found, here, with_address, unless_common}
-use Rattle.asm_objects.specs.Names.{with_first}
+use Rattle.st_base.specs.FirstUses.{used}
+use Rattle.asm_objects.specs.DefinedNames.{same_name}
 use Rattle.asm_objects.specs.declared.table.Places.{Places}
 use Rattle.asm_objects.specs.declared.table.Definition.{Definition}
 use Rattle.asm_objects.specs.declared.table.Home.{Home}
@@ -33,7 +36,7 @@ pub taken : {X Z : Type 0} (before behind : IntoIter X Z) (x : X) → into_iter_
 taken before behind x steps = steps.0
 
 -- a power of two up to the twelfth
-pub power_small : (n : ℕ) → n ≤ 12 → 1 * 2 ^ n % 340282366920938463463374607431768211456 ≤ 4096
+pub power_small : (n : ℕ) → n ≤ GREATEST_POWER → 1 * 2 ^ n % 340282366920938463463374607431768211456 ≤ 4096
 power_small n small = omega (arith, pow_mono small)
 
 -- there is room for the statements after one
@@ -57,9 +60,9 @@ offsets-push [] e fit small = (small, tt)
 offsets-push (x ∷ es) e fit small = (fit.0, offsets-push es e fit.1 small)
 
 -- a name with its definition
-pub offsets-with_first : (old new : List (List ℕ × Definition)) (name : List ℕ) (d : Definition) → new ≡ with_first old (name, d) → d.offset < 2 ^ 124 → OffsetsFit old → OffsetsFit new
-offsets-with_first old new name d is small fit =
-    subst OffsetsFit (sym is) (elim (cases_Bool (is_some (lookup (bytes_eq name) old))) [ inl h ↦ rw h fit | inr h ↦ rw h (offsets-push old (name, d) fit small) ])
+pub offsets-used : (old new : List (List ℕ × Definition)) (name : List ℕ) (d : Definition) → new ≡ used same_name old (name, d) → d.offset < 2 ^ 124 → OffsetsFit old → OffsetsFit new
+offsets-used old new name d is small fit =
+    subst OffsetsFit (sym is) (elim (cases_Bool (list_any (same_name (name, d)) old)) [ inl h ↦ rw h fit | inr h ↦ rw h (offsets-push old (name, d) fit small) ])
 
 -- a definition that a look-up gives
 lookup_small : (test : List ℕ → Bool) (es : List (List ℕ × Definition)) (d : Definition) → OffsetsFit es → lookup test es ≡ Some d → d.offset < 2 ^ 124

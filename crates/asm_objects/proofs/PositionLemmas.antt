@@ -7,7 +7,9 @@ use Rattle.std.proofs.lemmas.Option.{none-some, same_Some, unwrap_or-slice_get}
 use Rattle.std.proofs.lemmas.List.{get_or_default}
 use Rattle.std.proofs.lemmas.Nat.{div-add-mod', mul-le, pow_pos}
 use Rattle.std.proofs.Math.Nat.{mod-eq_of_lt, mod-lt, mod_self}
-use Rattle.asm_objects.specs.Layout.{after, moved, listed, reserved, grown_in, is_local, aligned, padding, end_of, reached, start}
+use Rattle.asm_objects.specs.declared.limits.TheConstants.{GREATEST_POWER}
+use Rattle.st_base.specs.Multiples.{aligned}
+use Rattle.asm_objects.specs.Layout.{after, moved, listed, reserved, grown_in, is_local, padding, end_of, reached, start}
 use Rattle.asm_objects.specs.Positions.{last_or, switched, IsLeastMultiple, Pads, Takes, TakesIn, Reserves, IsSum, gives_entry, IsPlace}
 use Rattle.asm_statements.specs.declared.statement.Part.{Part}
 use Rattle.asm_statements.specs.declared.statement.Part.TheVariants as part
@@ -68,8 +70,8 @@ padded u place some = padded_by u place (place / u) (place % u) some (div-add-mo
 
 pads : (power place : ℕ) → Pads power place (padding power place)
 pads power place = (
-  λ small. rw (le-leb power 12 small) (padded (2 ^ power) place (pow_pos power)),
-  λ large. rw (lt-leb power 12 large) (omega arith),
+  λ small. rw (le-leb power GREATEST_POWER small) (padded (2 ^ power) place (pow_pos power)),
+  λ large. rw (lt-leb power GREATEST_POWER large) (omega arith),
 )
 
 -- ---- one statement

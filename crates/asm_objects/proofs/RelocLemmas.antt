@@ -8,6 +8,9 @@ use Rattle.std.proofs.lemmas.Bool.{leb-true}
 use Rattle.std.proofs.lemmas.List.Quantifiers.{position-Some}
 use Rattle.reloc.specs.declared.reloc.Reloc.{Reloc}
 use Rattle.reloc.specs.Relocs.{RelocFits, is_segment}
+use Rattle.st_base.specs.declared.sizes.TheConstants.{GREATEST_ADDRESS}
+use Rattle.nlist_codec.specs.declared.kinds.TheConstants.{ABSOLUTE_SEGMENT, TEXT_SEGMENT, DATA_SEGMENT, BSS_SEGMENT}
+use Rattle.asm_objects.specs.declared.limits.TheConstants.{SYMBOL_LIMIT}
 use Rattle.asm_objects.specs.Emitting.{CommonBelow, Left, Stands, Within}
 use Rattle.asm_objects.specs.Layout.{each, start}
 use Rattle.asm_objects.specs.Meaning.{rel_fits, here, if_in, reloc_part, relocs_in, relocs_of, reloc_of, reloc_by, reloc_to, reloc_at, written, length_of, place_in}
@@ -90,11 +93,11 @@ regrouped false b c d e holds = holds
 -- one that is written
 written_fits : (r : Rel) → rel_fits r ≡ true → RelocFits (written r)
 written_fits r fits =
-    let tests = rel_tests (nat_le r.address 4294967295) (nat_lt r.symbol 16777216) (nat_lt r.flags 16) (nat_lt (r.flags / 2 % 4) 3)
-    (nat_le 8 r.flags || r.symbol == 2 || r.symbol == 4 || r.symbol == 6 || r.symbol == 8) fits in
+    let tests = rel_tests (nat_le r.address GREATEST_ADDRESS) (nat_lt r.symbol SYMBOL_LIMIT) (nat_lt r.flags 16) (nat_lt (r.flags / 2 % 4) 3)
+    (nat_le 8 r.flags || r.symbol == ABSOLUTE_SEGMENT || r.symbol == TEXT_SEGMENT || r.symbol == DATA_SEGMENT || r.symbol == BSS_SEGMENT) fits in
     let length : r.flags / 2 % 4 < 3 = leb-true _ 3 tests.1 in
-    let symbol : r.symbol < 16777216 = leb-true _ 16777216 tests.0 in
-    record { length = omega (arith, length); symbol = omega (arith, symbol); segment = regrouped (nat_le 8 r.flags) (r.symbol == 2) (r.symbol == 4) (r.symbol == 6) (r.symbol == 8) tests.2 }
+    let symbol : r.symbol < SYMBOL_LIMIT = leb-true _ SYMBOL_LIMIT tests.0 in
+    record { length = omega (arith, length); symbol = omega (arith, symbol); segment = regrouped (nat_le 8 r.flags) (r.symbol == ABSOLUTE_SEGMENT) (r.symbol == TEXT_SEGMENT) (r.symbol == DATA_SEGMENT) (r.symbol == BSS_SEGMENT) tests.2 }
 
 -- those of a statement
 relocs_fit : (t : Table) (u : List (List ℕ)) → Within t (length u) → (p : Places) (w : What) → Stands t p w → AllByRecursion RelocFits (relocs_in t u p w)

@@ -1,16 +1,16 @@
 -- The table of statements without a fault whose limits hold: its numbers fit an object.
 use Rattle.std.proofs.Common.{◌≡◌, ◌≢◌, ℕ, ◌+◌, ◌^◌, ◌<◌, ◌≤◌, true, List, [], ◌∷◌, fold, None, subst, arith, inl, inr}
-use Rattle.std.specs.Prelude.{◌==◌, ◌&&◌, not, nat_le, is_some, max, ◌*◌}
-use Rattle.std.specs.List.{AllByRecursion}
-use Rattle.std.specs.Map.{lookup}
-use Rattle.std.specs.Str.{bytes_eq}
+use Rattle.std.specs.Prelude.{◌==◌, ◌&&◌, not, nat_le, max, ◌*◌}
+use Rattle.std.specs.List.{AllByRecursion, list_any}
 use Rattle.std.proofs.lemmas.Bool.{cases_Bool, leb-true, and_parts}
 use Rattle.st_base.specs.Faults.{first_fault}
+use Rattle.aout_layout.specs.declared.header.TheConstants.{TWO_ORDERS}
 use Rattle.st_base.specs.declared.sizes.TheConstants.{ENTRY_SIZE, FILE_LIMIT, GREATEST_ADDRESS}
 use Rattle.st_base.proofs.CheckLemmas.{AllHold-first_fault}
 use Rattle.asm_objects.specs.Emitting.{CommonsBelow, Left, Stands, Within, limit_checks}
 use Rattle.asm_objects.specs.Layout.{after, each, last, machine_word, defined, end_of, start, table_of}
-use Rattle.asm_objects.specs.Names.{with_first}
+use Rattle.st_base.specs.FirstUses.{used}
+use Rattle.asm_objects.specs.DefinedNames.{same_name}
 use Rattle.asm_statements.specs.declared.statement.Statement.{Statement}
 use Rattle.asm_statements.specs.declared.statement.What.{What}
 use Rattle.asm_statements.specs.declared.statement.What.TheVariants as what
@@ -25,22 +25,22 @@ use Rattle.asm_objects.proofs.ObjectLemmas.{all-append, all_each, in_its_range}
 -- a machine word that an object can have
 record IsMachine (n : ℕ) : Type 0 where
   small : n < 2 ^ 16
-  told : n ≢ 1793
+  told : n ≢ TWO_ORDERS
 
 -- a test that a number is another
-other_number : (n : ℕ) → not (n == 1793) ≡ true → n ≢ 1793
-other_number n e same = let k : not (1793 == 1793) ≡ true = subst (λ (x : ℕ). not (x == 1793) ≡ true) same e in absurd cc
+other_number : (n : ℕ) → not (n == TWO_ORDERS) ≡ true → n ≢ TWO_ORDERS
+other_number n e same = let k : not (TWO_ORDERS == TWO_ORDERS) ≡ true = subst (λ (x : ℕ). not (x == TWO_ORDERS) ≡ true) same e in absurd cc
 
 -- the tests of a machine word
-is_machine : (n : ℕ) → (nat_le n 65535 && not (n == 1793)) ≡ true → IsMachine n
+is_machine : (n : ℕ) → (nat_le n 65535 && not (n == TWO_ORDERS)) ≡ true → IsMachine n
 is_machine n e =
-    let tests = and_parts (nat_le n 65535) (not (n == 1793)) e in
+    let tests = and_parts (nat_le n 65535) (not (n == TWO_ORDERS)) e in
     let small : n ≤ 65535 = leb-true n 65535 tests.0 in
     record { small = omega (arith, small); told = other_number n tests.1 }
 
 -- those of a statement without a fault, and the last of them
 machines : (t : Table) (p : Places) (w : What) → Stands t p w → AllByRecursion IsMachine (machine_word w)
-machines t p (what.Machine n) s = (is_machine n (in_its_range (nat_le n 65535 && not (n == 1793)) None s.no_fault).0, tt)
+machines t p (what.Machine n) s = (is_machine n (in_its_range (nat_le n 65535 && not (n == TWO_ORDERS)) None s.no_fault).0, tt)
 machines t p _ s = tt
 
 last_is : (n : ℕ) (words : List ℕ) → IsMachine n → AllByRecursion IsMachine words → IsMachine (fold last n words)
@@ -63,11 +63,11 @@ all_below p (s ∷ ss) most small =
     all-append _ (defined p s.what) (each defined (after p s) ss) (defined_below p s.what most (omega (arith, here, small))) (all_below (after p s) ss most small)
 
 -- names with their first definitions
-firsts_below : (most : ℕ) (names pairs : List (List ℕ × Definition)) → CommonsBelow most names → CommonsBelow most pairs → CommonsBelow most (fold with_first names pairs)
+firsts_below : (most : ℕ) (names pairs : List (List ℕ × Definition)) → CommonsBelow most names → CommonsBelow most pairs → CommonsBelow most (fold (used same_name) names pairs)
 firsts_below most names [] below more = below
 firsts_below most names (d ∷ pairs) below more =
-    firsts_below most (with_first names d) pairs
-    (elim (cases_Bool (is_some (lookup (bytes_eq d.0) names))) [ inl h ↦ rw h below | inr h ↦ rw h (all-append _ names (d ∷ []) below (more.0, tt)) ]) more.1
+    firsts_below most (used same_name names d) pairs
+    (elim (cases_Bool (list_any (same_name d) names)) [ inl h ↦ rw h below | inr h ↦ rw h (all-append _ names (d ∷ []) below (more.0, tt)) ]) more.1
 
 -- ---- the limits
 

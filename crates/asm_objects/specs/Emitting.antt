@@ -4,6 +4,7 @@ use Rattle.std.specs.Prelude.{◌≡◌, ◌≢◌, ℕ, ◌+◌, ◌*◌, ◌�
 use Rattle.std.specs.List.{AllByRecursion}
 use Rattle.st_base.specs.Faults.{Check, check}
 use Rattle.st_base.specs.declared.fault.TheConstants.{TOO_LARGE}
+use Rattle.aout_layout.specs.declared.header.TheConstants.{TWO_ORDERS}
 use Rattle.st_base.specs.declared.sizes.TheConstants.{ENTRY_SIZE, FILE_LIMIT, GREATEST_ADDRESS}
 use Rattle.asm_statements.specs.Fits.{StatementFits, AllFit}
 use Rattle.asm_objects.specs.Layout.{Room, moved, end_of, start, table_of}
@@ -66,7 +67,7 @@ pub record Within (t : Table) (names : ℕ) : Type 0 where
   pub entries : t.end.entries + names < 2 ^ 24
   pub commons : CommonsBelow t.end.entries t.names
   pub machine : t.machine < 2 ^ 16
-  pub told : t.machine ≢ 1793
+  pub told : t.machine ≢ TWO_ORDERS
 
 -- ---- statements that are left
 

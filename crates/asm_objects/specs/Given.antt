@@ -7,8 +7,8 @@ use Rattle.nlist_codec.specs.declared.named.Named.{Named as Named'}
 use Rattle.reloc.specs.declared.reloc.Reloc.{Reloc}
 use Rattle.aout_object.specs.declared.parts.Parts.{Parts}
 use Rattle.asm_objects.specs.Layout.{offset_in}
-use Rattle.asm_objects.specs.Meaning.{bytes_in, entries_in, reloc_part, relocs_in, undefined_entry}
-use Rattle.asm_objects.specs.Positions.{IsNowhere, IsPlace, IsSum, IsTable}
+use Rattle.asm_objects.specs.Meaning.{bytes_in, entries_in, ext, reloc_part, relocs_in, undefined_entry}
+use Rattle.asm_objects.specs.Positions.{IsGlobal, IsNowhere, IsPlace, IsSum, IsTable}
 use Rattle.asm_statements.specs.declared.statement.Name.{Name}
 use Rattle.asm_statements.specs.declared.statement.Name.TheVariants.{Here, Named}
 use Rattle.asm_statements.specs.declared.statement.Part.{Part}
@@ -107,5 +107,7 @@ pub record IsMade (order : Order) (ss : List Statement) (parts : Parts) (named :
   pub relocs : EachStands ss (λ before p w.
       (at : ℕ) × AreRelocs (reloc_part p w) before at × StandsAt (relocs_of parts (reloc_part p w)) at (relocs_in table names p w))
   pub entries : EachStands ss (λ before p w. StandsAt named p.entries (entries_in table p w))
+  pub external : (name : List ℕ) → (ext table name ≡ 1) ↔ IsGlobal ss name
+  pub internal : (name : List ℕ) → (IsGlobal ss name → ⊥) → ext table name ≡ 0
   pub count : length named ≡ table.end.entries + length names
   pub others : (j : ℕ) (name : List ℕ) → slice_get names j ≡ Some name → slice_get named (table.end.entries + j) ≡ Some (undefined_entry name)

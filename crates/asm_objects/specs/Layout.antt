@@ -1,8 +1,12 @@
 -- Where statements stand, and what they define. The place of a statement is the sum of the sizes of those before it in its
 -- segment.
 use Rattle.std.specs.Prelude.{ℕ, ◌+◌, ◌*◌, ◌/◌, ◌%◌, ◌-◌, nat_le, ◌<◌, ◌^◌, ◌==◌, Bool, true, false, if◌then◌else◌, List, [], ◌∷◌, ◌++◌, fold, length}
+use Rattle.st_base.specs.Multiples.{aligned}
 use Rattle.asm_statements.specs.Directives.{size_of_width}
-use Rattle.asm_objects.specs.Names.{with_first, with_word}
+use Rattle.std.specs.Str.{bytes_eq}
+use Rattle.st_base.specs.FirstUses.{first_uses}
+use Rattle.asm_objects.specs.declared.limits.TheConstants.{GREATEST_POWER}
+use Rattle.asm_objects.specs.DefinedNames.{same_name}
 use Rattle.asm_statements.specs.declared.statement.Part.{Part}
 use Rattle.asm_statements.specs.declared.statement.Part.TheVariants as part
 use Rattle.asm_statements.specs.declared.statement.What.{What}
@@ -31,10 +35,6 @@ abbrev pub home_of : Part → Home
 home_of part.Text = home.Text
 home_of part.Data = home.Data
 
--- the next multiple of four
-abbrev pub aligned : ℕ → ℕ
-aligned n = (n + 3) / 4 * 4
-
 -- so many bytes more in a segment
 abbrev pub grown_in : Part → Places → ℕ → Places
 grown_in part.Text p n = record p { text = p.text + n }
@@ -52,9 +52,9 @@ listed p false = record p { entries = p.entries + 1 }
 abbrev pub reserved : Places → ℕ → Places
 reserved p n = record p { bss = aligned p.bss + n }
 
--- two to this power; one where the power is over 12
+-- two to this power; one where the power is over the greatest
 abbrev pub unit_of : ℕ → ℕ
-unit_of n = if nat_le n 12 then 2 ^ n else 1
+unit_of n = if nat_le n GREATEST_POWER then 2 ^ n else 1
 
 -- how many bytes are missing to the next multiple
 abbrev pub padding : ℕ → ℕ → ℕ
@@ -126,8 +126,8 @@ last old new = new
 -- the names of a source with their first definitions, its global names, and the places at its end
 abbrev pub table_of : List Statement → Table
 table_of ss = record {
-  names = fold with_first [] (each defined start ss);
-  globals = fold with_word [] (each (λ p. global) start ss);
+  names = first_uses same_name (each defined start ss);
+  globals = first_uses bytes_eq (each (λ p. global) start ss);
   end = end_of start ss;
   entry = fold last 0 (each (λ p. entry_word) start ss);
   machine = fold last 0 (each (λ p. machine_word) start ss);

@@ -1,8 +1,8 @@
 pub mod Emitting
-pub mod First
+pub mod FirstOfSource
 pub mod Given
 pub mod Layout
-pub mod Making
+pub mod SourceMaking
 pub mod Meaning
-pub mod Names
+pub mod DefinedNames
 pub mod Positions

@@ -1,5 +1,5 @@
 -- What statements mean, by look-ups in the table of their source: values, faults, bytes, relocations and entries.
-use Rattle.std.specs.Prelude.{ℕ, ◌+◌, ◌-◌, ◌/◌, ◌%◌, ◌==◌, ◌&&◌, ◌||◌, not, nat_le, nat_lt, Bool, true, false, if◌then◌else◌, List, [], ◌∷◌, fold, position, Option, None, Some, is_none, unwrap_or, replicate, flat_map}
+use Rattle.std.specs.Prelude.{ℕ, ◌+◌, ◌-◌, ◌/◌, ◌%◌, ◌==◌, ◌&&◌, ◌||◌, not, nat_le, nat_lt, Bool, true, false, if◌then◌else◌, List, [], ◌∷◌, position, Option, None, Some, is_none, unwrap_or, replicate, flat_map}
 use Rattle.std.specs.List.{list_any}
 use Rattle.std.specs.Map.{lookup}
 use Rattle.std.specs.Str.{bytes_eq}
@@ -7,9 +7,14 @@ use Rattle.st_base.specs.declared.fault.Fault.{Fault}
 use Rattle.st_base.specs.Number.{bytes_of}
 use Rattle.reloc.specs.declared.reloc.Reloc.{Reloc}
 use Rattle.nlist_codec.specs.declared.named.Named.{Named as Named'}
+use Rattle.st_base.specs.declared.sizes.TheConstants.{GREATEST_ADDRESS}
+use Rattle.aout_layout.specs.declared.header.TheConstants.{TWO_ORDERS}
+use Rattle.nlist_codec.specs.declared.kinds.TheConstants.{ABSOLUTE_SEGMENT, TEXT_SEGMENT, DATA_SEGMENT, BSS_SEGMENT, UNDEFINED_EXTERNAL}
+use Rattle.asm_objects.specs.declared.limits.TheConstants.{GREATEST_POWER, SPACE_LIMIT, SYMBOL_LIMIT}
 use Rattle.st_base.specs.declared.fault.TheConstants.{LINE_RANGE, LINE_UNDEFINED, LINE_TWICE, LINE_MIXED}
-use Rattle.asm_objects.specs.Names.{with_word}
-use Rattle.asm_objects.specs.Layout.{home_of, offset_in, is_local, after, start, aligned, padding, table_of}
+use Rattle.st_base.specs.FirstUses.{first_uses}
+use Rattle.st_base.specs.Multiples.{aligned}
+use Rattle.asm_objects.specs.Layout.{home_of, offset_in, is_local, after, start, padding, table_of}
 use Rattle.asm_statements.specs.declared.statement.Part.{Part}
 use Rattle.asm_statements.specs.declared.statement.Part.TheVariants as part
 use Rattle.asm_statements.specs.declared.statement.Width.{Width}
@@ -35,10 +40,10 @@ use Rattle.asm_objects.specs.declared.check.Use.TheVariants as use'
 
 -- the kind of an entry that is defined there
 abbrev pub kind_of : Home → ℕ
-kind_of home.Text = 4
-kind_of home.Data = 6
-kind_of home.Bss = 8
-kind_of home.Common = 1
+kind_of home.Text = TEXT_SEGMENT
+kind_of home.Data = DATA_SEGMENT
+kind_of home.Bss = BSS_SEGMENT
+kind_of home.Common = UNDEFINED_EXTERNAL
 
 -- the address where the segment of a definition begins
 abbrev pub base : Table → Home → ℕ
@@ -174,20 +179,20 @@ stab_fits s = is_accepted s.kind && in_byte s.other && in_range 32768 65535 s.de
 -- the flags 1 pcrel, 2 or 4 or 0 length, 8 extern
 abbrev pub rel_fits : Rel → Bool
 rel_fits r =
-    nat_le r.address 4294967295 && nat_lt r.symbol 16777216 && nat_lt r.flags 16 && nat_lt (r.flags / 2 % 4) 3
-    && (nat_le 8 r.flags || r.symbol == 2 || r.symbol == 4 || r.symbol == 6 || r.symbol == 8)
+    nat_le r.address GREATEST_ADDRESS && nat_lt r.symbol SYMBOL_LIMIT && nat_lt r.flags 16 && nat_lt (r.flags / 2 % 4) 3
+    && (nat_le 8 r.flags || r.symbol == ABSOLUTE_SEGMENT || r.symbol == TEXT_SEGMENT || r.symbol == DATA_SEGMENT || r.symbol == BSS_SEGMENT)
 
 abbrev pub fault_of : Table → Places → What → Option ℕ
 fault_of t p (what.Label name) = twice t p name
 fault_of t p (what.Field width sum) = sum_fault t p use'.Field (low_of width) (high_of width) sum
-fault_of t p (what.Space n) = ranged (nat_le n 16777216) None
-fault_of t p (what.Comm name n) = ranged (nat_le 1 n && nat_le n 4294967295) (twice t p name)
-fault_of t p (what.Lcomm name n) = ranged (nat_le 1 n && nat_le n 4294967295) (twice t p name)
+fault_of t p (what.Space n) = ranged (nat_le n SPACE_LIMIT) None
+fault_of t p (what.Comm name n) = ranged (nat_le 1 n && nat_le n GREATEST_ADDRESS) (twice t p name)
+fault_of t p (what.Lcomm name n) = ranged (nat_le 1 n && nat_le n GREATEST_ADDRESS) (twice t p name)
 fault_of t p (what.Stab s) = ranged (stab_fits s) (sum_fault t p use'.Value 2147483648 4294967295 s.value)
-fault_of t p (what.Align n) = ranged (nat_le n 12) None
-fault_of t p (what.Entry n) = ranged (nat_le n 4294967295) None
-fault_of t p (what.Machine n) = ranged (nat_le n 65535 && not (n == 1793)) None
-fault_of t p (what.Bsize n) = ranged (nat_le n 4294967295) None
+fault_of t p (what.Align n) = ranged (nat_le n GREATEST_POWER) None
+fault_of t p (what.Entry n) = ranged (nat_le n GREATEST_ADDRESS) None
+fault_of t p (what.Machine n) = ranged (nat_le n 65535 && not (n == TWO_ORDERS)) None
+fault_of t p (what.Bsize n) = ranged (nat_le n GREATEST_ADDRESS) None
 fault_of t p (what.Rel r) = ranged (rel_fits r) None
 fault_of t p _ = None
 
@@ -232,7 +237,7 @@ outer t _ = []
 
 -- the undefined names in order of first use
 abbrev pub undefined_of : Table → List Statement → List (List ℕ)
-undefined_of t ss = fold with_word [] (flat_map (λ s. outer t s.what) ss)
+undefined_of t ss = first_uses bytes_eq (flat_map (λ s. outer t s.what) ss)
 
 -- ---- bytes
 
@@ -273,9 +278,9 @@ reloc_at p width symbol external =
 
 -- to the segment of a definition, to the entry of a common
 abbrev pub reloc_to : Places → Width → Home → ℕ → Reloc
-reloc_to p width home.Text offset = reloc_at p width 4 false
-reloc_to p width home.Data offset = reloc_at p width 6 false
-reloc_to p width home.Bss offset = reloc_at p width 8 false
+reloc_to p width home.Text offset = reloc_at p width TEXT_SEGMENT false
+reloc_to p width home.Data offset = reloc_at p width DATA_SEGMENT false
+reloc_to p width home.Bss offset = reloc_at p width BSS_SEGMENT false
 reloc_to p width home.Common offset = reloc_at p width offset true
 
 -- to a definition, or to the entry of an undefined name
@@ -337,12 +342,12 @@ bss_at p = record { home = home.Bss; offset = aligned p.bss; number = p.number }
 
 abbrev pub entries_in : Table → Places → What → List Named'
 entries_in t p (what.Label name) = unless_local (is_local name) (entry_with (kind_of (home_of p.part) + ext t name) (address t (here p)) name)
-entries_in t p (what.Comm name n) = entry_with 1 n name ∷ []
+entries_in t p (what.Comm name n) = entry_with UNDEFINED_EXTERNAL n name ∷ []
 entries_in t p (what.Lcomm name n) =
-    unless_local (is_local name) (entry_with (8 + ext t name) (address t (bss_at p)) name)
+    unless_local (is_local name) (entry_with (BSS_SEGMENT + ext t name) (address t (bss_at p)) name)
 entries_in t p (what.Stab s) = stab_entry t p s ∷ []
 entries_in t p _ = []
 
 -- the entry of an undefined name
 abbrev pub undefined_entry : List ℕ → Named'
-undefined_entry name = entry_with 1 0 name
+undefined_entry name = entry_with UNDEFINED_EXTERNAL 0 name

@@ -1,9 +1,10 @@
 -- Where the statements of a source stand, by counts and sums over the statements before them: each segment has a counter of its own.
 -- After the manual of GNU as on sections and on `.p2align`.
-use Rattle.std.specs.Prelude.{◌≡◌, ◌≢◌, ◌≤◌, ◌<◌, ℕ, ◌+◌, ◌-◌, ◌*◌, ◌^◌, Bool, true, false, not, List, [], ◌∷◌, length, take, sum, count_by, flat_map, slice_get, Option, None, Some, unwrap_or}
+use Rattle.std.specs.Prelude.{◌≡◌, ◌≢◌, ◌≤◌, ◌<◌, ℕ, ◌+◌, ◌-◌, ◌*◌, ◌^◌, Bool, true, false, not, List, [], ◌∷◌, length, take, sum, count_by, flat_map, slice_get, Contains, ◌↔◌, Option, None, Some, unwrap_or}
 use Rattle.std.specs.Map.{lookup}
 use Rattle.std.specs.Str.{bytes_eq}
 use Rattle.asm_statements.specs.Directives.{size_of_width}
+use Rattle.asm_objects.specs.declared.limits.TheConstants.{GREATEST_POWER}
 use Rattle.asm_objects.specs.Layout.{bss_size, entry_word, home_of, is_local, machine_word, offset_in}
 use Rattle.asm_statements.specs.declared.statement.Part.{Part}
 use Rattle.asm_statements.specs.declared.statement.Part.TheVariants as part
@@ -39,9 +40,9 @@ pub record IsLeastMultiple (unit place multiple : ℕ) : Type 0 where
   pub reaches : place ≤ multiple
   pub least : (k : ℕ) → place ≤ k * unit → multiple ≤ k * unit
 
--- `.p2align` takes what leads to the next multiple of this power of two; a power over 12 is a fault, and takes nothing
+-- `.p2align` takes what leads to the next multiple of this power of two; a power over the greatest is a fault, and takes nothing
 abbrev pub Pads : ℕ → ℕ → ℕ → Type 0
-Pads power place size = (power ≤ 12 → IsLeastMultiple (2 ^ power) place (place + size)) × (12 < power → size ≡ 0)
+Pads power place size = (power ≤ GREATEST_POWER → IsLeastMultiple (2 ^ power) place (place + size)) × (GREATEST_POWER < power → size ≡ 0)
 
 -- a statement that stands at this place of its segment takes so many bytes of it
 abbrev pub Takes : What → ℕ → ℕ → Type 0
@@ -120,11 +121,17 @@ pub record IsDefinition (ss : List Statement) (name : List ℕ) (d : Definition)
   pub placed : IsPlace (take d.number ss) places
   pub defines : Defines statement.what places d
 
--- the table of a source: each name that is defined with its definition, the places at the end, and the last word of each kind
+-- a `.globl` of these statements names it: the name is for all objects
+abbrev pub IsGlobal : List Statement → List ℕ → Type 0
+IsGlobal ss name = (n : ℕ) × (s : Statement) × (slice_get ss n ≡ Some s) × (s.what ≡ what.Globl name)
+
+-- the table of a source: each name that is defined with its definition, the names that `.globl` gives, the places at the end, and the
+-- last word of each kind
 pub record IsTable (ss : List Statement) (t : Table) : Type 0 where
   pub end : IsPlace ss t.end
   pub defined : (name : List ℕ) (d : Definition) → lookup (bytes_eq name) t.names ≡ Some d → IsDefinition ss name d
   pub undefined : (name : List ℕ) → lookup (bytes_eq name) t.names ≡ None → IsNowhere ss name
+  pub globals : (name : List ℕ) → Contains t.globals name ↔ IsGlobal ss name
   pub entry : t.entry ≡ last_or 0 (flat_map (λ s. entry_word s.what) ss)
   pub machine : t.machine ≡ last_or 0 (flat_map (λ s. machine_word s.what) ss)
   pub bsize : t.bsize ≡ last_or 0 (flat_map (λ s. bss_size s.what) ss)

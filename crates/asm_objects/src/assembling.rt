@@ -2,7 +2,7 @@ ghost use Rattle.std.specs.Prelude.{◌≡◌, length, IfOk};
 ghost use Rattle.aout_object.specs.Decoding.{Gives};
 ghost use Rattle.asm_objects.specs.Emitting.{Left, Passed, TableFits, Within};
 ghost use Rattle.asm_objects.specs.Layout.{start, table_of};
-ghost use Rattle.asm_objects.specs.Making.{entries_by, object_of, parts_by};
+ghost use Rattle.asm_objects.specs.SourceMaking.{entries_by, object_of, parts_by};
 
 use crate::check::first_fault;
 use crate::making::{Made, check_limits, emit};

@@ -7,10 +7,13 @@ ghost use Rattle.asm_objects.specs.Layout as layout;
 ghost use Rattle.asm_objects.specs.Layout.{Room};
 ghost use Rattle.asm_objects.specs.Meaning as spec;
 
+use crate::limits::{GREATEST_POWER, SPACE_LIMIT, SYMBOL_LIMIT};
 use crate::table::{Definition, Places, Table, after, is_local, start};
 use crate::value::{address, found, in_range, kind_of, minus, plus};
+use aout_layout::TWO_ORDERS;
 use asm_statements::{Expression, Name, Plain, Rel, Stab, Statement, What, Width};
-use st_base::{Fault, LINE_MIXED, LINE_RANGE, LINE_TWICE, LINE_UNDEFINED};
+use nlist_codec::{ABSOLUTE_SEGMENT, BSS_SEGMENT, DATA_SEGMENT, TEXT_SEGMENT};
+use st_base::{Fault, GREATEST_ADDRESS, LINE_MIXED, LINE_RANGE, LINE_TWICE, LINE_UNDEFINED};
 
 /// How an expression is used: as the value of a stab, or in a data field.
 #[derive(Clone, Copy, Drop)]
@@ -259,15 +262,15 @@ fn ranged(fits: bool, fault: Option<u16>) -> Option<u16>
 fn rel_fits(rel: Rel) -> bool
     ensures { result ≡ spec.rel_fits rel }
 {
-    rel.address <= 4294967295
-        && rel.symbol < 16777216
+    rel.address <= GREATEST_ADDRESS
+        && rel.symbol < SYMBOL_LIMIT
         && rel.flags < 16
         && rel.flags / 2 % 4 < 3
         && (8 <= rel.flags
-            || rel.symbol == 2
-            || rel.symbol == 4
-            || rel.symbol == 6
-            || rel.symbol == 8)
+            || rel.symbol == u64::from(ABSOLUTE_SEGMENT)
+            || rel.symbol == u64::from(TEXT_SEGMENT)
+            || rel.symbol == u64::from(DATA_SEGMENT)
+            || rel.symbol == u64::from(BSS_SEGMENT))
 }
 
 fn stab_fault(table: &Table, places: Places, stab: &Stab) -> Option<u16>
@@ -300,20 +303,20 @@ fn fault_of(table: &Table, places: Places, what: &What) -> Option<u16>
             let high = high_of(*width);
             sum_fault(table, places, Use::Field, low, high, sum)
         }
-        What::Space(size) => ranged(*size <= 16777216, None),
+        What::Space(size) => ranged(*size <= SPACE_LIMIT, None),
         What::Comm(name, size) => ranged(
-            1 <= *size && *size <= 4294967295,
+            1 <= *size && *size <= GREATEST_ADDRESS,
             twice(table, places, name.bytes()),
         ),
         What::Lcomm(name, size) => ranged(
-            1 <= *size && *size <= 4294967295,
+            1 <= *size && *size <= GREATEST_ADDRESS,
             twice(table, places, name.bytes()),
         ),
         What::Stab(stab) => stab_fault(table, places, stab),
-        What::Align(power) => ranged(*power <= 12, None),
-        What::Entry(word) => ranged(*word <= 4294967295, None),
-        What::Machine(word) => ranged(*word <= 65535 && *word != 1793, None),
-        What::Bsize(size) => ranged(*size <= 4294967295, None),
+        What::Align(power) => ranged(*power <= GREATEST_POWER, None),
+        What::Entry(word) => ranged(*word <= GREATEST_ADDRESS, None),
+        What::Machine(word) => ranged(*word <= 65535 && *word != u64::from(TWO_ORDERS), None),
+        What::Bsize(size) => ranged(*size <= GREATEST_ADDRESS, None),
         What::Rel(rel) => ranged(rel_fits(*rel), None),
         _ => None,
     }

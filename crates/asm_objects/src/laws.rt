@@ -1,12 +1,15 @@
 ghost use Rattle.std.specs.Prelude.{◌≡◌, ℕ, List, None, Some, true, false};
+ghost use Rattle.std.specs.Map.{lookup};
+ghost use Rattle.std.specs.Str.{bytes_eq};
 ghost use Rattle.st_base.specs.declared.fault.Fault.{Fault};
 ghost use Rattle.st_base.specs.declared.order.Order.{Order};
-ghost use Rattle.asm_objects.specs.First.{HasFault, IsFirst};
+ghost use Rattle.asm_objects.specs.FirstOfSource.{HasFault, IsFirst};
 ghost use Rattle.asm_objects.specs.Given.{IsMade};
 ghost use Rattle.asm_objects.specs.Layout.{end_of, start, table_of};
-ghost use Rattle.asm_objects.specs.Making.{entries_of, parts_of};
+ghost use Rattle.asm_objects.specs.SourceMaking.{entries_of, parts_of};
 ghost use Rattle.asm_objects.specs.Meaning.{fault_of, first_fault_of, high_of, low_of, rel_fits, twice};
-ghost use Rattle.asm_objects.specs.Positions.{IsPlace, IsTable};
+ghost use Rattle.asm_objects.specs.Positions.{IsDefinition, IsPlace, IsTable};
+ghost use Rattle.asm_objects.specs.declared.table.Definition.{Definition};
 ghost use Rattle.asm_objects.specs.declared.table.Places.{Places};
 ghost use Rattle.asm_objects.specs.declared.table.Table.{Table};
 ghost use Rattle.asm_statements.specs.declared.statement.Part.{Part};
@@ -20,10 +23,14 @@ pub fn first_fault_laws()
     ensures none { (ss : List Statement) → first_fault_of ss ≡ None → (f : Fault) → HasFault (table_of ss) start ss f → ⊥ }
 {}
 
-/// (law) The place of a statement is the sum of the sizes of those before it in its segment; a name stands for its first definition.
+/// (law) The place of a statement is the sum of the sizes of those before it in its segment, and it has no other; a name stands for its
+/// first definition, and for no other.
 pub fn place_laws()
     ensures places { (before : List Statement) → IsPlace before (end_of start before) }
     ensures table { (ss : List Statement) → IsTable ss (table_of ss) }
+    ensures one_place { (before : List Statement) (p q : Places) → IsPlace before p → IsPlace before q → p ≡ q }
+    ensures one_definition { (ss : List Statement) (name : List ℕ) (d e : Definition) → IsDefinition ss name d → IsDefinition ss name e → d ≡ e }
+    ensures one_lookup { (ss : List Statement) (name : List ℕ) (t u : Table) → IsTable ss t → IsTable ss u → lookup (bytes_eq name) t.names ≡ lookup (bytes_eq name) u.names }
 {}
 
 /// (law) In the object of statements without a fault the bytes of each statement stand at its place, its entry and its relocation after

@@ -12,6 +12,7 @@
 mod assembling;
 mod check;
 mod laws;
+mod limits;
 mod making;
 mod names;
 mod table;

@@ -2,7 +2,7 @@ ghost use Rattle.std.specs.Prelude.{◌≡◌, ◌+◌, ◌++◌, ◌∷◌, ◌
 ghost use Rattle.st_base.specs.ByteOrder.{is_big};
 ghost use Rattle.st_base.specs.Faults.{checked};
 ghost use Rattle.asm_statements.specs.declared.statement.Part.TheVariants as part;
-ghost use Rattle.asm_objects.specs.Making.{entries_by, parts_by};
+ghost use Rattle.asm_objects.specs.SourceMaking.{entries_by, parts_by};
 ghost use Rattle.asm_objects.specs.Emitting.{CommonBelow, EndsInMemory, Left, Stands, TableFits, Within, limit_checks};
 ghost use Rattle.asm_statements.specs.Fits.{StatementFits, SumFits};
 ghost use Rattle.asm_objects.specs.Layout as layout;
@@ -10,16 +10,17 @@ ghost use Rattle.asm_objects.specs.Layout.{Room};
 ghost use Rattle.asm_objects.specs.Meaning as spec;
 
 use crate::table::{
-    Definition, Home, Places, Table, after, aligned, home_of, is_local, offset_in, padding, start,
+    Definition, Home, Places, Table, after, home_of, is_local, offset_in, padding, start,
 };
 use crate::value::{address, here, kind_of, minus, plus, word};
 use crate::words::Words;
 use aout_object::Parts;
 use asm_statements::{Name, Part, Plain, Rel, Stab, Statements, What, Width};
-use nlist_codec::Named;
+use nlist_codec::{BSS_SEGMENT, DATA_SEGMENT, Named, TEXT_SEGMENT, UNDEFINED_EXTERNAL};
 use reloc::Reloc;
 use st_base::{
     ENTRY_SIZE, FILE_LIMIT, Fault, GREATEST_ADDRESS, Layout, List, Memory, Order, TOO_LARGE, Text,
+    aligned,
 };
 use std::alloc::Global;
 
@@ -167,9 +168,9 @@ fn reloc_to(places: Places, width: Width, home: Home, offset: u128) -> Reloc
     ensures { result ≡ spec.reloc_to places width home offset }
 {
     match home {
-        Home::Text => reloc_at(places, width, 4, false),
-        Home::Data => reloc_at(places, width, 6, false),
-        Home::Bss => reloc_at(places, width, 8, false),
+        Home::Text => reloc_at(places, width, u32::from(TEXT_SEGMENT), false),
+        Home::Data => reloc_at(places, width, u32::from(DATA_SEGMENT), false),
+        Home::Bss => reloc_at(places, width, u32::from(BSS_SEGMENT), false),
         Home::Common => reloc_at(places, width, offset as u32, true),
     }
 }
@@ -400,9 +401,9 @@ fn put_entries(
             let value = value_at(table, here(places));
             put_unless_local(out, kind, value, name)
         }
-        What::Comm(name, size) => put_entry(out, 1, size as u32, name),
+        What::Comm(name, size) => put_entry(out, UNDEFINED_EXTERNAL, size as u32, name),
         What::Lcomm(name, _) => {
-            let kind = 8 + ext(table, &name);
+            let kind = BSS_SEGMENT + ext(table, &name);
             let value = value_at(table, bss_at(places));
             put_unless_local(out, kind, value, name)
         }
@@ -416,7 +417,7 @@ fn put_undefined(alloc: Global, out: &mut List<Named>, undefined: &Words) -> Res
 {
     for at in 0..undefined.len() {
         let name = undefined.text_at(alloc, at)?;
-        put_entry(out, 1, 0, name)?;
+        put_entry(out, UNDEFINED_EXTERNAL, 0, name)?;
     }
     Ok(())
 }

@@ -1,7 +1,8 @@
 ghost use Rattle.std.specs.Prelude.{◌≡◌, [], OnOk, OnErr};
 ghost use Rattle.std.specs.Map.{lookup};
 ghost use Rattle.std.specs.Str.{bytes_eq};
-ghost use Rattle.asm_objects.specs.Names.{with_first};
+ghost use Rattle.st_base.specs.FirstUses.{used};
+ghost use Rattle.asm_objects.specs.DefinedNames.{same_name};
 
 use crate::table::Definition;
 use indexmap::IndexMap;
@@ -19,7 +20,7 @@ pub struct Names {
 impl Model for Names {
     ghost use Rattle.std.specs.Prelude.{List, ℕ};
     ghost use Rattle.asm_objects.specs.declared.table.Definition.{Definition};
-    ghost use Rattle.asm_objects.specs.Names.{pairs_in};
+    ghost use Rattle.asm_objects.specs.DefinedNames.{pairs_in};
 
     ghost Value = { List (List ℕ × Definition) };
 
@@ -46,7 +47,7 @@ impl Names {
 
     /// Gives a name its definition, where it has none. Refused only where memory runs out; the names are then as they were.
     pub fn add(&mut self, name: &[u8], definition: Definition) -> Result<(), Memory>
-        ensures ok { OnOk result (self.new ≡ with_first self.old (name.now, definition)) }
+        ensures ok { OnOk result (self.new ≡ used same_name self.old (name.now, definition)) }
         ensures err { OnErr result (self.new ≡ self.old) }
     {
         if self.map.contains_key(name) {

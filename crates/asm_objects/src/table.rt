@@ -1,12 +1,15 @@
 ghost use Rattle.std.specs.Prelude.{◌≡◌, ◌+◌, ◌≤◌, ◌<◌, ◌^◌, ℕ, IfOk, OnOk, fold};
 ghost use Rattle.asm_objects.specs.Emitting.{Grows, OffsetsFit, TableFits};
 ghost use Rattle.asm_objects.specs.Layout as spec;
-ghost use Rattle.asm_objects.specs.Names.{with_first, with_word};
+ghost use Rattle.std.specs.Str.{bytes_eq};
+ghost use Rattle.st_base.specs.FirstUses.{used};
+ghost use Rattle.asm_objects.specs.DefinedNames.{same_name};
 
+use crate::limits::GREATEST_POWER;
 use crate::names::Names;
 use crate::words::Words;
 use asm_statements::{Part, Statement, What, size_of_width};
-use st_base::Memory;
+use st_base::{Memory, aligned};
 use std::alloc::Global;
 
 /// Where a statement stands: its segment, the offsets reached in text, data and bss, and how many entries and statements come
@@ -77,15 +80,6 @@ pub(crate) fn home_of(part: Part) -> Home
     }
 }
 
-/// The next multiple of four.
-pub(crate) fn aligned(offset: u128) -> u128
-    requires { offset < 2 ^ 126 }
-    ensures value { result ≡ spec.aligned offset }
-    ensures small { result ≤ offset + 3 }
-{
-    (offset + 3) / 4 * 4
-}
-
 fn grown(places: Places, size: u128) -> Places
     requires room { spec.Room places 1 }
     requires small { size ≤ 2 ^ 65 }
@@ -125,13 +119,17 @@ fn reserved(places: Places, size: u64) -> Places
     places
 }
 
-// Two to this power, and one where it is over 12.
+// Two to this power, and one where it is over the greatest.
 fn unit_of(power: u64) -> u128
     ensures value { result ≡ spec.unit_of power }
     ensures some { 1 ≤ result }
     ensures small { result ≤ 4096 }
 {
-    if power <= 12 { 1 << power } else { 1 }
+    if power <= GREATEST_POWER {
+        1 << power
+    } else {
+        1
+    }
 }
 
 /// How many bytes are missing to the next multiple.
@@ -183,7 +181,7 @@ pub(crate) fn after(places: Places, statement: &Statement) -> Places
 // Gives a name its definition, where it has none.
 fn add_name(names: &mut Names, name: &[u8], definition: Definition) -> Result<(), Memory>
     requires { definition.offset < 2 ^ 124 }
-    ensures value { OnOk result (names.new ≡ with_first names.old (name.now, definition)) }
+    ensures value { OnOk result (names.new ≡ used same_name names.old (name.now, definition)) }
     ensures fits { OnOk result (OffsetsFit names.old → OffsetsFit names.new) }
 {
     names.add(name, definition)?;
@@ -192,7 +190,7 @@ fn add_name(names: &mut Names, name: &[u8], definition: Definition) -> Result<()
 
 fn define(names: &mut Names, places: Places, what: &What) -> Result<(), Memory>
     requires { spec.Room places 1 }
-    ensures value { OnOk result (names.new ≡ fold with_first names.old (spec.defined places what.now)) }
+    ensures value { OnOk result (names.new ≡ fold (used same_name) names.old (spec.defined places what.now)) }
     ensures fits { OnOk result (OffsetsFit names.old → OffsetsFit names.new) }
 {
     let number = places.number;
@@ -241,7 +239,7 @@ fn define(names: &mut Names, places: Places, what: &What) -> Result<(), Memory>
 }
 
 fn note_global(globals: &mut Words, what: &What) -> Result<(), Memory>
-    ensures { OnOk result (globals.new ≡ fold with_word globals.old (spec.global what.now)) }
+    ensures { OnOk result (globals.new ≡ fold (used bytes_eq) globals.old (spec.global what.now)) }
 {
     match what {
         What::Globl(name) => globals.add(name.bytes()),

@@ -1,6 +1,7 @@
 ghost use Rattle.std.specs.Prelude.{◌≡◌, IfOk, OnOk, fold};
 ghost use Rattle.asm_objects.specs.Meaning as spec;
-ghost use Rattle.asm_objects.specs.Names.{with_word};
+ghost use Rattle.std.specs.Str.{bytes_eq};
+ghost use Rattle.st_base.specs.FirstUses.{used};
 
 use crate::table::Table;
 use crate::words::Words;
@@ -15,7 +16,7 @@ fn note_outer(
     added: &[Name],
     taken: &[Name],
 ) -> Result<(), Memory>
-    ensures { OnOk result (words.new ≡ fold with_word words.old (spec.outer_of table.now added.now taken.now)) }
+    ensures { OnOk result (words.new ≡ fold (used bytes_eq) words.old (spec.outer_of table.now added.now taken.now)) }
 {
     match added {
         [] => Ok(()),
@@ -34,7 +35,7 @@ fn note_outer(
 }
 
 fn note_undefined(words: &mut Words, table: &Table, what: &What) -> Result<(), Memory>
-    ensures { OnOk result (words.new ≡ fold with_word words.old (spec.outer table.now what.now)) }
+    ensures { OnOk result (words.new ≡ fold (used bytes_eq) words.old (spec.outer table.now what.now)) }
 {
     match what {
         What::Field(_, sum) => note_outer(words, table, sum.added(), sum.taken()),

@@ -6,6 +6,7 @@ ghost use Rattle.asm_objects.specs.Meaning as spec;
 
 use crate::table::{Definition, Home, Places, Table, home_of, offset_in};
 use asm_statements::{Expression, Name};
+use nlist_codec::{BSS_SEGMENT, DATA_SEGMENT, TEXT_SEGMENT, UNDEFINED_EXTERNAL};
 
 /// The kind of an entry that is defined there.
 pub(crate) fn kind_of(home: Home) -> u8
@@ -13,10 +14,10 @@ pub(crate) fn kind_of(home: Home) -> u8
     ensures small { result ≤ 8 }
 {
     match home {
-        Home::Text => 4,
-        Home::Data => 6,
-        Home::Bss => 8,
-        Home::Common => 1,
+        Home::Text => TEXT_SEGMENT,
+        Home::Data => DATA_SEGMENT,
+        Home::Bss => BSS_SEGMENT,
+        Home::Common => UNDEFINED_EXTERNAL,
     }
 }
 

@@ -1,7 +1,7 @@
 ghost use Rattle.std.specs.Prelude.{◌≡◌, [], OnOk, OnErr, IfOk, Some, ◌<◌, length, slice_get, position};
 ghost use Rattle.std.specs.List.{list_any};
 ghost use Rattle.std.specs.Str.{bytes_eq};
-ghost use Rattle.asm_objects.specs.Names.{with_word};
+ghost use Rattle.st_base.specs.FirstUses.{used};
 
 use indexmap::IndexSet;
 use st_base::{Memory, Text};
@@ -17,7 +17,7 @@ pub struct Words {
 
 impl Model for Words {
     ghost use Rattle.std.specs.Prelude.{List, ℕ};
-    ghost use Rattle.asm_objects.specs.Names.{words_in};
+    ghost use Rattle.asm_objects.specs.DefinedNames.{words_in};
 
     ghost Value = { List (List ℕ) };
 
@@ -70,7 +70,7 @@ impl Words {
 
     /// Adds a name, where it is not there. Refused only where memory runs out; the names are then as they were.
     pub fn add(&mut self, name: &[u8]) -> Result<(), Memory>
-        ensures ok { OnOk result (self.new ≡ with_word self.old name.now) }
+        ensures ok { OnOk result (self.new ≡ used bytes_eq self.old name.now) }
         ensures err { OnErr result (self.new ≡ self.old) }
     {
         let key = Vec::from_slice(self.alloc, name)?;

@@ -4,7 +4,7 @@ use Rattle.std.specs.Prelude.{codes}
 use Rattle.asm_statements.specs.Tokens.{tokens}
 use Rattle.asm_statements.specs.Tokens.Token.{Word, Str, Mark}
 use Rattle.asm_statements.specs.Operands.{number_of}
-use Rattle.asm_statements.specs.Lines.{line_of, read_source, at_line}
+use Rattle.asm_statements.specs.SourceLines.{line_of, read_source, at_line}
 use Rattle.asm_statements.specs.declared.statement.Part.TheVariants as part
 use Rattle.asm_statements.specs.declared.statement.Width.TheVariants.{Long}
 use Rattle.asm_statements.specs.declared.statement.Name.TheVariants.{Here, Named}

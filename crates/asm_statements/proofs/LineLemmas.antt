@@ -5,7 +5,7 @@ use Rattle.std.specs.List.{prefix_len}
 use Rattle.std.proofs.lemmas.Option.{none-some}
 use Rattle.std.proofs.lemmas.Bool.{cases_Bool, ltb-true, ltb-false}
 use Rattle.std.proofs.lemmas.List.{take_all, length-drop}
-use Rattle.asm_statements.specs.Lines.{read_lines, line_of, with_line, at_line, is_feed, lines_of, statements_of, rest_of, is_colon}
+use Rattle.asm_statements.specs.SourceLines.{read_lines, line_of, with_line, at_line, is_feed, lines_of, statements_of, rest_of, is_colon}
 use Rattle.asm_statements.specs.Operands.{◌>>=◌, name_in}
 use Rattle.asm_statements.specs.Scanning.{Reads, Puts, with_what, with_whats, with_statements, lines_behind}
 use Rattle.asm_statements.specs.Tokens.{Token}

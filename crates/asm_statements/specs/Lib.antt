@@ -1,8 +1,8 @@
 pub mod Directives
 pub mod Expressions
 pub mod Fits
-pub mod Kinds
-pub mod Lines
+pub mod TokenKinds
+pub mod SourceLines
 pub mod Operands
 pub mod Scanning
 pub mod Tokens

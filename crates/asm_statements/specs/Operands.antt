@@ -1,7 +1,8 @@
 -- The operands of a directive: numbers, names, strings and expressions, by the tokens between commas.
-use Rattle.std.specs.Prelude.{ℕ, suc, ◌+◌, ◌-◌, ◌*◌, ◌==◌, nat_le, min, Bool, true, false, if◌then◌else◌, List, [], ◌∷◌, ◌++◌, Option, Some, None}
+use Rattle.std.specs.Prelude.{ℕ, suc, ◌+◌, ◌*◌, ◌==◌, nat_le, min, Bool, true, false, if◌then◌else◌, List, [], ◌∷◌, ◌++◌, Option, Some, None, unwrap_or}
 use Rattle.std.specs.Str.{bytes_eq}
-use Rattle.asm_statements.specs.Tokens.{Token, is_digit, is_within, begins_name}
+use Rattle.st_base.specs.Numerals.{digit_value as digit_of}
+use Rattle.asm_statements.specs.Tokens.{Token, begins_name}
 use Rattle.asm_statements.specs.Tokens.Token.{Word, Str, Mark}
 use Rattle.asm_statements.specs.declared.statement.Name.{Name}
 use Rattle.asm_statements.specs.declared.statement.Name.TheVariants.{Here, Named}
@@ -21,9 +22,7 @@ limit = 4294967296
 
 -- the value of a digit of either case; 99 for any other byte
 abbrev pub digit_value : ℕ → ℕ
-digit_value b =
-    if is_digit b then b - 48
-    else (if is_within 97 102 b then b - 87 else (if is_within 65 70 b then b - 55 else 99))
+digit_value b = unwrap_or (digit_of b) 99
 
 abbrev pub value_on : ℕ → ℕ → List ℕ → Option ℕ
 value_on base v [] = Some v

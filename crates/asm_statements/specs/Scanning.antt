@@ -4,7 +4,7 @@ use Rattle.asm_statements.specs.Tokens.{Token, is_octal, with_token}
 use Rattle.asm_statements.specs.Tokens.Token.{Str}
 use Rattle.asm_statements.specs.Fits.{NamesFit}
 use Rattle.asm_statements.specs.Operands.{pieces}
-use Rattle.asm_statements.specs.Lines.{at_line, lines_of}
+use Rattle.asm_statements.specs.SourceLines.{at_line, lines_of}
 use Rattle.asm_statements.specs.declared.scan.Bad.{Bad}
 use Rattle.asm_statements.specs.declared.scan.Bad.TheVariants as bad
 use Rattle.asm_statements.specs.declared.token.Quoted.{Quoted}

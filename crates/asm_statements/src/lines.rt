@@ -2,8 +2,8 @@ ghost use Rattle.std.specs.Prelude.{◌≡◌, ◌<◌, ◌≤◌, ◌∷◌, le
 ghost use Rattle.std.specs.Option.{option_copied};
 ghost use Rattle.st_base.specs.declared.fault.TheConstants.{LINE_SYNTAX};
 ghost use Rattle.st_base.specs.Faults.{fault_at};
-ghost use Rattle.asm_statements.specs.Lines.{ReadsSource};
-ghost use Rattle.asm_statements.specs.Lines as spec;
+ghost use Rattle.asm_statements.specs.SourceLines.{ReadsSource};
+ghost use Rattle.asm_statements.specs.SourceLines as spec;
 ghost use Rattle.asm_statements.specs.Scanning.{Puts, lines_behind};
 
 use crate::directives::{directive_of, put_operands};

@@ -21,14 +21,9 @@ fn digit_value(b: u8) -> u64
     ensures value { result ≡ spec.digit_value b }
     ensures small { result ≤ 99 }
 {
-    if b'0' <= b && b <= b'9' {
-        u64::from(b - b'0')
-    } else if b'a' <= b && b <= b'f' {
-        u64::from(b - b'a' + 10)
-    } else if b'A' <= b && b <= b'F' {
-        u64::from(b - b'A' + 10)
-    } else {
-        99
+    match st_base::digit_value(b) {
+        Some(value) => u64::from(value),
+        None => 99,
     }
 }
 

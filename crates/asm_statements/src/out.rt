@@ -1,6 +1,6 @@
 ghost use Rattle.std.specs.Prelude.{◌≡◌, ◌∷◌, ◌++◌, [], Some, OnErr, OnOk};
 ghost use Rattle.asm_statements.specs.Fits.{StatementFits, AllFit};
-ghost use Rattle.asm_statements.specs.Lines.{at_line};
+ghost use Rattle.asm_statements.specs.SourceLines.{at_line};
 ghost use Rattle.asm_statements.specs.Scanning.{with_what, Puts};
 
 use crate::scan::Bad;

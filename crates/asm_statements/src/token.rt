@@ -2,7 +2,7 @@ ghost use Rattle.std.specs.Prelude.{◌≡◌, IfSome};
 ghost use Rattle.std.specs.Option.{option_copied};
 ghost use Rattle.strtab.specs.StringTable.{HasNoZero};
 ghost use Rattle.asm_statements.specs.Tokens.Token.{Word, Str, Mark};
-ghost use Rattle.asm_statements.specs.Kinds.{token_of, KindFits};
+ghost use Rattle.asm_statements.specs.TokenKinds.{token_of, KindFits};
 
 use st_base::Text;
 use std::marker::Model;
@@ -35,7 +35,7 @@ pub type Tokens<'t, 'a> = &'t [Token<'a>];
 
 impl<'a> Model for Token<'a> {
     ghost use Rattle.asm_statements.specs.Tokens as tokens;
-    ghost use Rattle.asm_statements.specs.Kinds.{token_of, KindFits};
+    ghost use Rattle.asm_statements.specs.TokenKinds.{token_of, KindFits};
 
     ghost Value = { tokens.Token };
 

@@ -17,14 +17,14 @@ use Rattle.stab_units.specs.declared.unit.ItemText.TheVariants as texts
 use Rattle.unit_outlines.specs.Outlines.{units_of}
 use Rattle.stab_units.specs.Units.{Filed, Stab, stabs_of, unit_of}
 use Rattle.bincl_match.specs.declared.range.RangeOf.{RangeOf}
-use Rattle.bincl_match.specs.Sums.{without_files}
+use Rattle.bincl_match.specs.HeaderSums.{without_files}
 use Rattle.bincl_match.specs.Ranges.{among, ranges_of, typed_ranges}
 use Rattle.bincl_match.specs.Instances.{IsInstance, IsTaken}
 use Rattle.std.specs.Prelude.{sum}
 
 -- ---- sums
 
--- digits that directly follow a `(` do not count; those behind the `,` and a plain number do
+-- digits that directly follow a `(` do not count; those after the `,` and a plain number do
 left_out : without_files false (codes "p:t(12,3)=*4") ≡ codes "p:t(,3)=*4"
 left_out = refl
 

@@ -45,7 +45,7 @@ unfolding place
 place_good p [] any = let h : false ≡ true = any in cc
 place_good p (x ∷ xs) any = good_at p x xs (place p xs) (p x) refl (λ e. place_good p xs (rw e at any))
 
--- below 2 ^ 32, numbers behind a sum stay apart
+-- below 2 ^ 32, numbers after a sum stay apart
 mod_apart : (s a b : ℕ) → a < 2 ^ 32 → b < 2 ^ 32 → (s + a) % 2 ^ 32 ≡ (s + b) % 2 ^ 32 → a ≡ b
 mod_apart s a b p q e = omega arith
 
@@ -157,6 +157,6 @@ tried_more found new tries more key s n w knows tried news mores name sum m is d
           ap (λ (z : List ℕ). found z ((sum + d) % 2 ^ 32)) (sym k) ∙ ap (λ (z : ℕ). found key ((z + d) % 2 ^ 32)) (sym t) ∙ tried d (subst (λ (z : ℕ). d < z) (sym j) lt)
       by_case false e h = knows name sum m (sym (ap (λ (z : Bool). cond z (Some n) (tries name sum)) e) ∙ h) d lt
 
--- the number so far behind the sum is the first that is free
+-- the number so far after the sum is the first that is free
 pub first_free : (taken : ℕ → Bool) (sum d v : ℕ) → v ≡ (sum + d) % 2 ^ 32 → taken ((sum + d) % 2 ^ 32) ≡ false → AreTried taken sum d → FirstFrom sum (λ w. taken w ≡ true) v
 first_free taken sum d v is free tried = (d, is, (λ t. not_both (taken v) t (ap taken is ∙ free)), tried)

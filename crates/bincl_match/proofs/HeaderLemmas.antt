@@ -1,5 +1,5 @@
 -- The ranges of entries, but for the numbers of units, are those of the units that have headers, as far as their headers go. So they are the same
--- for entries that are alike, and those of two lists that stand one behind the other are those of the two.
+-- for entries that are alike, and those of two lists that stand one after the other are those of the two.
 use Rattle.std.proofs.Common.{◌≡◌, ℕ, ◌+◌, None, Bool, cond, refl, sym, ap, subst, ◌∙◌, List, [], ◌∷◌, ◌++◌, append_assoc, map}
 use Rattle.std.specs.Prelude.{◌&&◌, ⊤, filter, flat_map, is_some}
 use Rattle.std.proofs.lemmas.List.{map-append}
@@ -171,7 +171,7 @@ module _ (one_string : (text : List ℕ) (s t : Symbol) → IsSpelling s text �
           unit_ranges_one (header_units end entries) (map (in_unit 0) xs) (map (in_unit 0) (typed_ranges 0 u.0 i.0)) are (found_ranges end entries (typed_ranges 0 u.0 i.0) found),
         )
 
-    -- those of two lists that stand one behind the other are those of the two
+    -- those of two lists that stand one after the other are those of the two
     pub found_more : ((end other text_end : ℕ) (es fs : List Named) (us vs : List Unit) → AreUnits end es us → AreUnits other fs vs → (units : List Unit) × AreUnits text_end (es ++ fs) units)
         → ((marks : Marks) (end first second : ℕ) (es fs : List Named) → OutlineFault marks es None → OutlineFault marks fs None → header_units end (es ++ fs) ≡ header_units first es ++ header_units second fs)
         → (first second end : ℕ) (es fs : List Named) (xs ys : List RangeOf) → AreFoundButUnits first es xs → AreFoundButUnits second fs ys → AreFoundButUnits end (es ++ fs) (xs ++ ys)

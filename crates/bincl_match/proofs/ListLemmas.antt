@@ -64,7 +64,7 @@ get_beside (z ∷ xs) (y ∷ ys) (suc k) x l e = get_beside xs ys k x (omega ari
 
 -- ---- items from a place on
 
--- the item at a place, and those behind it
+-- the item at a place, and those after it
 pub drop_item : {E : Type 0} (xs : List E) (at : ℕ) (x : E) → at < length xs → x ≡ get_or xs at x → drop at xs ≡ x ∷ drop (at + 1) xs
 drop_item xs at x within is = drop_more xs at x within ∙ ap (λ z. z ∷ drop (at + 1) xs) (sym is)
 

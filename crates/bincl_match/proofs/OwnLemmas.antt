@@ -70,7 +70,7 @@ ready_begun : (b : Bool) (e : Named) (p file : ℕ) (es : List Named) (f : ℕ) 
 ready_begun true e p file es f = and_true (cond (file == f) (is_ready_entry e es) true)
 ready_begun false e p file es f = sym (same_cond (file == f))
 
--- an entry that is no N_SO begins a stab or none, before those behind it
+-- an entry that is no N_SO begins a stab or none, before those after it
 behind_entry : (back : List Named) (p : ℕ) (e : Named) (es : List Named) → e.kind ≢ N_SO → stabs_from back p (e ∷ es) ≡ stab_at back p e es ++ stabs_from (e ∷ back) (p + 1) es
 behind_entry back p e es inside =
     ap (λ (z : Bool). cond z [] (stab_at back p e es ++ stabs_from (e ∷ back) (p + 1) es)) (ne_eqb e.kind N_SO inside)
@@ -111,7 +111,7 @@ walk_more all files e es o begins ready file nest going flags was inside begin_i
       ∙ ap (λ (z : List Stab). slice_index_or o.ready f false && is_ready_in f z) (sym (behind_entry was.back was.place e es inside)) ∙ was.each f lt;
 }
 
--- behind the last entry of the unit
+-- after the last entry of the unit
 pub walk_end : (all : ℕ → Bool) (files : ℕ) (left : List Named) (o : Owners) → ((back : List Named) (p : ℕ) → stabs_from back p left ≡ []) → HasWalked all files left o → HasWalkedAll all files o
 walk_end all files left o none was = record {
   count = was.count;

@@ -9,7 +9,7 @@ use Rattle.unit_outlines.specs.declared.outline_types.UnitSpan.{UnitSpan}
 use Rattle.stab_units.specs.declared.unit.HeaderFile.{HeaderFile}
 use Rattle.stab_units.specs.declared.unit.Unit.{Unit}
 use Rattle.unit_outlines.specs.EntryWords.{behind_first}
-use Rattle.stab_units.specs.Units.{Stab, Filed, AreRead, MakesUnit, SpansFault, files_from, file_of, header_name, parsed, parsed_in, stabs_from, stabs_of, symbols_at, unit_of}
+use Rattle.stab_units.specs.Units.{Stab, Filed, AreRead, MakesUnit, SpansFaultAfter, files_from, file_of, header_name, parsed, parsed_in, stabs_from, stabs_of, symbols_at, unit_of}
 use Rattle.bincl_match.specs.declared.range.RangeOf.{RangeOf}
 use Rattle.bincl_match.specs.Ranges.{AreItems, among, is_repeated, is_typed, range_of, ranges_from, typed_ranges, unit_ranges}
 use Rattle.bincl_match.specs.Owning.{AreReady, names_type}
@@ -35,7 +35,7 @@ ready_files u n count (name ∷ names) ss fs ready read flags within =
     ap (λ (z : Bool). range_of u n (file_of n name fs) z ∷ ready_ranges u (n + 1) (files_from (n + 1) names fs) ready) here
     ∙ ap (λ (z : List RangeOf). range_of u n (file_of n name fs) (is_typed n fs) ∷ z) (ready_files u (n + 1) count names ss fs ready read flags (omega arith))
 
--- flags of the stabs behind an entry are those of the unit that it begins
+-- flags of the stabs after an entry are those of the unit that it begins
 pub flags_are : (entries : List Named) (span : UnitSpan) (n m : ℕ) (ready : List Bool) → n ≡ m
     → AreReady n (stabs_from [] (span.first + 1) (take (length entries - (span.first + 1)) (drop (span.first + 1) entries))) ready → AreReady m (stabs_of entries span) ready
 flags_are entries span n m ready same flags =
@@ -78,7 +78,8 @@ ranges_more entries all left rest n start ranges ranges_new steps steps_new s is
       ap (λ (z : List RangeOf). z ++ typed_ranges (n + 1) (units_with rest items) items) one.are
       ∙ append_assoc ranges (unit_ranges n (unit_of s one.items) one.items) (typed_ranges (n + 1) (units_with rest items) items) in
       subst (λ (z : List RangeOf). AreTyped entries all z) (sym e) more;
-  fault = λ f h. was.fault f (subst (λ (z : List UnitSpan). SpansFault entries z f) (sym is) (inr (unit_of s one.items, record { items = one.items; read = one.read; is = refl }, h)));
+  stopped = λ f new h. was.stopped f new (subst (λ (z : List UnitSpan). SpansFaultAfter entries z f steps new) (sym is)
+      (inr (unit_of s one.items, record { items = one.items; read = one.read; is = refl }, subst (λ (z : ℕ). SpansFaultAfter entries rest f z new) ticks h)));
   counted =
       let e : parsed_in entries left ≡ parsed (stabs_of entries s) + parsed_in entries rest = ap (parsed_in entries) is in
       let c = was.counted in omega arith;

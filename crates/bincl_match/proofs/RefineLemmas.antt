@@ -38,7 +38,7 @@ firsts_equal keys out f i j lti ltj e =
 pub keys_equal : (keys : List (List ℕ)) (out : List ℕ) → AreFirsts keys out → (i j : ℕ) → i < length keys → j < length keys → get_or out i 0 ≡ get_or out j 0 → key_at keys i ≡ key_at keys j
 keys_equal keys out f i j lti ltj e = sym (f.each i lti).1 ∙ ap (key_at keys) e ∙ (f.each j ltj).1
 
--- no first place is behind its own
+-- no first place is after its own
 pub firsts_low : (keys : List (List ℕ)) (out : List ℕ) → AreFirsts keys out → AreLow out
 firsts_low keys out f i = by_order (cases_lt i (length keys)) where
   by_order : (i < length keys) ⊎ (length keys ≤ i) → get_or out i 0 ≤ i

@@ -36,7 +36,7 @@ firsts_some keys = let all = listed 0 (IsFirst keys) (length keys) (λ i lt. fir
 
 -- ---- groups by name and shape
 
--- a text in front of others: each byte is one more, and 0 ends it
+-- a text before others: each byte is one more, and 0 ends it
 text_code : List ℕ → List ℕ → List ℕ
 text_code [] rest = 0 ∷ rest
 text_code (b ∷ text) rest = suc b ∷ text_code text rest
@@ -56,7 +56,7 @@ text_one (a ∷ t) (b ∷ u) r s e =
     let texts : t ≡ u = more.0 in
     (cc, more.1)
 
--- texts, one behind the other
+-- texts, one after the other
 texts_code : List (List ℕ) → List ℕ
 texts_code [] = []
 texts_code (t ∷ texts) = text_code t (texts_code texts)

@@ -1,5 +1,6 @@
--- The instances of kept ranges: numbers that tell the kept ranges of one name apart. This project's own; in "The stabs debug format"
--- the value of an N_BINCL is its sum.
+-- The instance of a kept range: the value that a link gives its N_BINCL, and each N_EXCL that stands for it, so that no two kept ranges
+-- of one name have the same. It is the first free number from the sum of the range on. This project's own; in "The stabs debug format"
+-- the value is the sum itself.
 use Rattle.std.specs.Prelude.{◌≡◌, ℕ, ◌+◌, ◌<◌, ◌≤◌, ◌%◌, ◌^◌, List, Some, slice_get, slice_index, length, ◌≢◌}
 use Rattle.std.specs.List.{slice_index_or}
 use Rattle.bincl_match.specs.declared.range.Grouping.{Grouping}
@@ -19,7 +20,7 @@ abbrev pub IsInstance : List RangeOf → List ℕ → List ℕ → ℕ → Type 
 IsInstance ranges kept instance i =
     (x : RangeOf) × (slice_get ranges i ≡ Some x) × FirstFrom x.sum (IsTaken ranges kept instance i x.name) (slice_index_or instance i 0)
 
--- no range's number is above its own place
+-- what is kept for a range never stands after it
 abbrev pub AreLow : List ℕ → Type 0
 AreLow kept = (i : ℕ) → slice_index_or kept i 0 ≤ i
 

@@ -1,4 +1,4 @@
-pub mod Sums
+pub mod HeaderSums
 pub mod Ranges
 pub mod Lawful
 pub mod Instances

@@ -10,19 +10,20 @@ use Rattle.bincl_match.specs.Lawful.{IsHeader}
 
 -- ---- pairs
 
--- a number of a range of one unit agrees with a number of a range of the other: both are 0, or they are files of headers whose ranges are
--- one range or a pair of P
+-- a file number in a range of one unit agrees with one in a range of another: both are 0, the main source, or they are the numbers of
+-- headers whose ranges are one range or a pair of P
 abbrev pub NumbersAgree : List RangeOf → (ℕ → ℕ → Type 0) → ℕ → ℕ → ℕ → ℕ → Type 0
 NumbersAgree ranges P unit other m n = ((m ≡ 0) × (n ≡ 0)) ⊎ ((k : ℕ) × (l : ℕ) × IsHeader ranges unit m k × IsHeader ranges other n l × ((k ≡ l) ⊎ P k l))
 
--- there are as many numbers of the one as of the other, and they agree place by place
+-- the one range has as many file numbers as the other, and they agree place by place
 abbrev pub AllAgree : List RangeOf → (ℕ → ℕ → Type 0) → ℕ → ℕ → List ℕ → List ℕ → Type 0
 AllAgree ranges P unit other [] [] = ⊤
 AllAgree ranges P unit other [] (n ∷ ns) = ⊥
 AllAgree ranges P unit other (m ∷ ms) [] = ⊥
 AllAgree ranges P unit other (m ∷ ms) (n ∷ ns) = NumbersAgree ranges P unit other m n × AllAgree ranges P unit other ms ns
 
--- ranges i and j may be one where the pairs of P are: candidates of two units with one name and one shape, whose numbers agree
+-- ranges i and j may be merged, provided that all pairs of P are: they are candidates of two units, with one name and one shape, and
+-- their file numbers agree
 pub record MayPair (ranges : List RangeOf) (P : ℕ → ℕ → Type 0) (i j : ℕ) : Type 0 where
   pub first : RangeOf
   pub second : RangeOf
@@ -34,7 +35,7 @@ pub record MayPair (ranges : List RangeOf) (P : ℕ → ℕ → Type 0) (i j : �
   pub shapes : first.shape ≡ second.shape
   pub agree : AllAgree ranges P first.unit second.unit first.numbers second.numbers
 
--- the pairs of P are a matching: each of them may be one where all of them are
+-- the pairs of P are a matching: each of them may be merged, provided that all of them are
 abbrev pub IsMatching : List RangeOf → (ℕ → ℕ → Type 0) → Type 0
 IsMatching ranges P = (i j : ℕ) → P i j → MayPair ranges P i j
 
@@ -48,7 +49,7 @@ Among pairs i j = Contains pairs (i, j) ⊎ Contains pairs (j, i)
 abbrev pub InOneClass : List RangeOf → ℕ → ℕ → Type 0
 InOneClass ranges i j = (i ≡ j) ⊎ ((pairs : List (ℕ × ℕ)) × IsMatching ranges (Among pairs) × Among pairs i j)
 
--- range k is kept for range i: it is the first of its class
+-- range k is kept for range i: it is the first of its class in the order of the list, which is that of the entries in the order of the list, which is that of the entries
 abbrev pub IsKept : List RangeOf → ℕ → ℕ → Type 0
 IsKept ranges i k = InOneClass ranges i k × ((j : ℕ) → InOneClass ranges i j → k ≤ j)
 

@@ -4,8 +4,9 @@ use Rattle.bincl_match.specs.declared.range.Grouping.{Grouping}
 use Rattle.bincl_match.specs.declared.range.RangeOf.{RangeOf}
 use Rattle.bincl_match.specs.Matching.{MayPair}
 
--- a kept range is one of the list and kept for itself; another range and its kept one are like each other, with numbers that name ranges
--- for which the same is kept; no two ranges of a unit have one kept range; and instances tell the kept ranges of one name apart
+-- what is kept for a range is one of the list, and kept for itself; a range and the one kept for it have one name and one shape, and their
+-- file numbers name ranges for which the same is kept; no two ranges of a unit have one kept range; and no two kept ranges of one name
+-- have one instance
 pub record IsMerging (ranges : List RangeOf) (g : Grouping) : Type 0 where
   pub count : (length g.kept ≡ length ranges) × (length g.instance ≡ length ranges)
   pub inside : (i : ℕ) → i < length ranges → slice_index g.kept i < length ranges

@@ -16,9 +16,9 @@ use Rattle.unit_outlines.specs.Outlines.{units_of}
 use Rattle.stab_units.specs.Units.{Filed, AreRead, is_type, stabs_of}
 use Rattle.stab_units.specs.ObjectUnits.{AreUnits}
 use Rattle.bincl_match.specs.declared.range.RangeOf.{RangeOf}
-use Rattle.bincl_match.specs.Sums.{sum_of}
+use Rattle.bincl_match.specs.HeaderSums.{sum_of}
 
--- ---- own entries
+-- ---- own entries: those between the N_BINCL of a header and its N_EINCL, without those of headers inside it
 
 -- an item is that of an N_LSYM type symbol
 abbrev pub is_own_type : Item → Bool
@@ -34,7 +34,9 @@ is_typed file items = list_all (is_typed_at file) items
 
 -- ---- the ranges of a unit
 
--- the range of a header file; `typed` says that its own entries all belong to N_LSYM type symbols
+-- the range of a header file; `typed` says that its own entries all belong to N_LSYM type symbols. Until `among` looks at the others it is
+-- a candidate where they do. Until `among` looks at the others it is
+-- a candidate where they do
 abbrev pub range_of : ℕ → ℕ → HeaderFile → Bool → RangeOf
 range_of unit file h typed = record {
   unit = unit;
@@ -111,7 +113,8 @@ pub record AreRanges (text_end : ℕ) (entries : List Named) (ranges : List Rang
 
 -- ---- ranges by themselves
 
--- the ranges of the entries of an object as they are found: each is a candidate as far as its own entries go, whatever other ranges are like it
+-- the ranges of the entries of an object as they are found: each is a candidate by its own entries alone, before `among` looks at
+-- the others
 pub record AreFound (text_end : ℕ) (entries : List Named) (ranges : List RangeOf) : Type 0 where
   pub units : List Unit
   pub are_units : AreUnits text_end entries units

@@ -6,7 +6,7 @@ use Rattle.nlist_codec.specs.declared.named.Named.{Named}
 use Rattle.unit_outlines.specs.declared.outline_types.UnitSpan.{UnitSpan}
 use Rattle.stab_units.specs.declared.unit.HeaderFile.{HeaderFile}
 use Rattle.stab_units.specs.declared.unit.Unit.{Unit}
-use Rattle.stab_units.specs.Units.{Filed, SpansFault, Stab, AreRead, parsed_in, unit_of}
+use Rattle.stab_units.specs.Units.{Filed, SpansFaultAfter, Stab, AreRead, parsed_in, unit_of}
 use Rattle.bincl_match.specs.declared.range.RangeOf.{RangeOf}
 use Rattle.bincl_match.specs.Ranges.{AreItems, in_unit, range_of, typed_ranges, unit_ranges}
 use Rattle.bincl_match.specs.Owning.{names_type}
@@ -18,7 +18,7 @@ abbrev pub ready_ranges : ℕ → ℕ → List HeaderFile → List Bool → List
 ready_ranges unit file [] ready = []
 ready_ranges unit file (h ∷ headers) ready = range_of unit file h (slice_index_or ready file false && list_all names_type h.symbols) ∷ ready_ranges unit (file + 1) headers ready
 
--- the stabs of a span are read, and these are its ranges behind the old ones
+-- the stabs of a span are read, and these are its ranges after the old ones
 pub record HasRanges (stabs : List Stab) (span : UnitSpan) (number : ℕ) (old new : List RangeOf) : Type 0 where
   pub items : List Filed
   pub read : AreRead stabs items
@@ -41,7 +41,7 @@ pub record AreTyped (entries : List Named) (spans : List UnitSpan) (ranges : Lis
 -- the spans before those that are left, the first of which has the number n, have these ranges; there were `start` steps before the first
 pub record HaveRanges (entries : List Named) (all left : List UnitSpan) (n start : ℕ) (ranges : List RangeOf) (steps : ℕ) : Type 0 where
   pub typed : (items : List (List Filed)) → AreItems entries left items → AreTyped entries all (ranges ++ typed_ranges n (units_with left items) items)
-  pub fault : (f : Fault) → SpansFault entries left f → SpansFault entries all f
+  pub stopped : (f : Fault) (new : ℕ) → SpansFaultAfter entries left f steps new → SpansFaultAfter entries all f start new
   pub counted : steps + parsed_in entries left ≡ start + parsed_in entries all
 
 -- ---- ranges that are changed

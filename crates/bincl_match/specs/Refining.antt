@@ -94,7 +94,7 @@ Alike i j x y true false = ⊥
 Alike i j x y false true = ⊥
 Alike i j x y false false = (x.name ≡ y.name) × (x.shape ≡ y.shape)
 
--- what each round keeps: groups are named by places that are not behind their own, the pairs of each matching are of one group, and
+-- what each round keeps: groups are named by places that are not after their own, the pairs of each matching are of one group, and
 -- the ranges of a group are alike
 pub record AreRefined (ranges : List RangeOf) (prepared : List Prepared) (groups : List ℕ) : Type 0 where
   pub count : length groups ≡ length ranges

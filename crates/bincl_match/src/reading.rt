@@ -6,8 +6,8 @@ ghost use Rattle.st_base.specs.declared.fault.Refused.{Refused};
 ghost use Rattle.unit_outlines.specs.declared.outline_types.UnitSpan.{UnitSpan as SomeSpan};
 ghost use Rattle.unit_outlines.specs.declared.outline_types.Marks.TheVariants.{Object};
 ghost use Rattle.unit_outlines.specs.Outlines.{IsOutlined, OutlineFault, units_of};
-ghost use Rattle.stab_units.specs.Units.{SpansFault, UnitFault, parsed, parsed_in, stabs_of};
-ghost use Rattle.stab_units.specs.ObjectUnits.{UnitsFault, strings_in};
+ghost use Rattle.stab_units.specs.Units.{SpansFault, SpansFaultAfter, UnitFaultAfter, parsed, parsed_in, stabs_of};
+ghost use Rattle.stab_units.specs.ObjectUnits.{UnitsFault, UnitsFaultAfter, strings_in};
 ghost use Rattle.bincl_match.specs.Lawful.{IsLawful};
 ghost use Rattle.bincl_match.specs.Ranges.{AreFound, AreRanges, among};
 ghost use Rattle.bincl_match.specs.Reading.{AreTyped, HasRanges};
@@ -37,7 +37,7 @@ fn put_span<L: Ledger>(
     requires few { length entries.now < 2 ^ 32 }
     requires outlined { IsOutlined entries.now span.now }
     ensures found { OnOk result (HasRanges (stabs_of entries.now span.now) span.now number out.old out.new) }
-    ensures refused { (f : Fault) → result ≡ Err (Refused.At f) → UnitFault entries.now span.now f }
+    ensures stopped { (f : Fault) → result ≡ Err (Refused.At f) → UnitFaultAfter entries.now span.now f steps.old steps.new }
     ensures ticks { OnOk result (steps.new ≡ steps.old + parsed (stabs_of entries.now span.now)) }
 {
     match read_unit(alloc, entries, span, steps) {
@@ -60,7 +60,7 @@ fn read_spans<L: Ledger>(
     requires count { length spans.now ≤ length entries.now }
     requires outlined { (number : ℕ) (span : SomeSpan) → slice_get spans.now number ≡ Some span → IsOutlined entries.now span }
     ensures found { IfOk result (λ ranges. AreTyped entries.now spans.now ranges) }
-    ensures refused { (f : Fault) → result ≡ Err (Refused.At f) → SpansFault entries.now spans.now f }
+    ensures stopped { (f : Fault) → result ≡ Err (Refused.At f) → SpansFaultAfter entries.now spans.now f steps.old steps.new }
     ensures ticks { IfOk result (λ ranges. steps.new ≡ steps.old + parsed_in entries.now spans.now) }
 {
     let mut ranges = List::new(alloc);
@@ -100,6 +100,7 @@ fn span_ranges<L: Ledger>(
     requires outlined { spans.now ≡ units_of text_end entries.now }
     ensures found { IfOk result (λ ranges. AreFound text_end entries.now ranges) }
     ensures refused { (f : Fault) → result ≡ Err (Refused.At f) → SpansFault entries.now spans.now f }
+    ensures stopped { (f : Fault) → result ≡ Err (Refused.At f) → SpansFaultAfter entries.now spans.now f steps.old steps.new }
     ensures ticks { IfOk result (λ ranges. steps.new ≡ steps.old + parsed_in entries.now spans.now) }
 {
     match read_spans(alloc, entries, spans, steps) {
@@ -118,6 +119,7 @@ fn find_list<L: Ledger>(
     requires { length entries.now < 2 ^ 32 }
     ensures found { IfOk result (λ ranges. AreFound text_end entries.now ranges) }
     ensures refused { (f : Fault) → result ≡ Err (Refused.At f) → UnitsFault text_end entries.now f }
+    ensures stopped { (f : Fault) → result ≡ Err (Refused.At f) → UnitsFaultAfter text_end entries.now f steps.old steps.new }
     ensures ticks { IfOk result (λ ranges. steps.new ≡ steps.old + strings_in text_end entries.now) }
 {
     match outline(alloc, entries, text_end, Marks::Object) {
@@ -135,8 +137,9 @@ fn find_list<L: Ledger>(
 /// `text_end` is the address at which text ends. A range is the header that an N_BINCL opens, with the shapes, files and sum of the
 /// symbols of its file. It is a candidate exactly where each stab of its file, header marks apart, is that of an N_LSYM type symbol
 /// (`t`, `T` or `Tt`), whatever other ranges there are. Refused with the fault of the outline, else with the fault of the first string
-/// that spells no symbol, as by `units`. One step is taken for each string that is parsed. Takes memory for the ranges, and for one
-/// unit at a time; out of memory is its own answer. After "The stabs debug format"; shapes, sums and candidates are this project's own.
+/// that spells no symbol, as by `units`. One step is taken for each string that is parsed: where the outline is refused none, and where
+/// a string is refused one for each up to and with it. Takes memory for the ranges, and for one unit at a time; out of memory is its
+/// own answer. After "The stabs debug format"; shapes, sums and candidates are this project's own.
 pub fn find_ranges<L: Ledger>(
     alloc: Global,
     entries: &List<Named>,
@@ -146,6 +149,7 @@ pub fn find_ranges<L: Ledger>(
     requires { length entries.now < 2 ^ 32 }
     ensures found { IfOk result (λ ranges. AreFound text_end entries.now ranges) }
     ensures refused { (f : Fault) → result ≡ Err (Refused.At f) → UnitsFault text_end entries.now f }
+    ensures stopped { (f : Fault) → result ≡ Err (Refused.At f) → UnitsFaultAfter text_end entries.now f steps.old steps.new }
     ensures ticks { IfOk result (λ ranges. steps.new ≡ steps.old + strings_in text_end entries.now) }
 {
     match find_list(alloc, entries, text_end, steps) {
@@ -168,6 +172,7 @@ pub fn ranges<L: Ledger>(
     ensures lawful { IfOk result (λ ranges. IsLawful ranges) }
     ensures few { IfOk result (λ ranges. length ranges < 2 ^ 32) }
     ensures refused { (f : Fault) → result ≡ Err (Refused.At f) → UnitsFault text_end entries.now f }
+    ensures stopped { (f : Fault) → result ≡ Err (Refused.At f) → UnitsFaultAfter text_end entries.now f steps.old steps.new }
     ensures ticks { IfOk result (λ ranges. steps.new ≡ steps.old + strings_in text_end entries.now) }
 {
     match find_list(alloc, entries, text_end, steps) {

@@ -2,8 +2,8 @@
 
 ghost use Rattle.std.specs.Prelude.{◌≡◌, ◌+◌, ◌<◌, ◌%◌, ◌^◌, ◌&&◌, false, flat_map, sum, IfOk};
 ghost use Rattle.std.specs.Char as char;
-ghost use Rattle.bincl_match.specs.Sums as spec;
-ghost use Rattle.bincl_match.specs.Sums.{counted, without_files};
+ghost use Rattle.bincl_match.specs.HeaderSums as spec;
+ghost use Rattle.bincl_match.specs.HeaderSums.{counted, without_files};
 
 use st_base::{Memory, Text};
 use stab_grammar::{Symbol, print};

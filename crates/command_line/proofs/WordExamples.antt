@@ -8,7 +8,7 @@ use Rattle.bincl_match.specs.declared.mode.Mode.TheVariants as modes
 use Rattle.command_line.specs.declared.command.Command.TheVariants as commands
 use Rattle.command_line.specs.declared.command.Asked.TheVariants as asks
 use Rattle.readers.specs.Words.{number_at, digits_on}
-use Rattle.query_text.specs.Places.{is_text}
+use Rattle.query_text.specs.WordPlaces.{is_text}
 use Rattle.query_text.proofs.TextLemmas.{ascii_text}
 use Rattle.st_base.specs.declared.order.Order.TheVariants.{Big}
 use Rattle.command_line.specs.Commands.{asked, inputs_of, output_of}

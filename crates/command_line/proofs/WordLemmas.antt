@@ -3,7 +3,7 @@ use Rattle.std.proofs.Common.{◌≡◌, ◌<◌, ℕ, zero, suc, ◌+◌, Bool,
 use Rattle.std.proofs.Math.Seq.{drop-cons}
 use Rattle.command_line.specs.declared.words.Operand.{Operand}
 use Rattle.command_line.specs.declared.words.Want.{Want}
-use Rattle.command_line.specs.Words.{word_of, is_operand, first, behind}
+use Rattle.command_line.specs.CommandWords.{word_of, is_operand, first, behind}
 
 -- one word more is behind
 drop-behind : (at : ℕ) (words : List (List ℕ)) → drop (at + 1) words ≡ behind (drop at words)

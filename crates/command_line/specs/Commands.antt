@@ -18,7 +18,7 @@ use Rattle.command_line.specs.declared.command.Command.{Command}
 use Rattle.command_line.specs.declared.command.Command.TheVariants as commands
 use Rattle.command_line.specs.declared.command.Asked.{Asked}
 use Rattle.command_line.specs.declared.command.Asked.TheVariants as asks
-use Rattle.command_line.specs.Words.{word_of, wrong_front, order_of, base_of, mode_of, first_no_text, objects_end}
+use Rattle.command_line.specs.CommandWords.{word_of, wrong_front, order_of, base_of, mode_of, first_no_text, objects_end}
 
 -- ---- the forms of command lines
 

@@ -1,7 +1,7 @@
 //! What the places of a command's words want, and where words are not what is wanted.
 
 ghost use Rattle.std.specs.Prelude.{◌≡◌, ◌≤◌, ◌<◌, IfOk, length, take, drop};
-ghost use Rattle.command_line.specs.Words as spec;
+ghost use Rattle.command_line.specs.CommandWords as spec;
 
 use bincl_match::Mode;
 use query_text::{Wanted, address_of, is_text, wrong_place};
@@ -111,7 +111,7 @@ fn is_dashes(word: &[u8]) -> bool
 }
 
 impl Wanted for Want {
-    ghost use Rattle.command_line.specs.Words.{is_wanted};
+    ghost use Rattle.command_line.specs.CommandWords.{is_wanted};
 
     ghost wants = { is_wanted };
 

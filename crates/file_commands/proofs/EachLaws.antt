@@ -5,7 +5,7 @@ use Rattle.st_base.specs.declared.fault.Fault.{Fault}
 use Rattle.file_commands.specs.declared.outcome.Outcome.{Outcome}
 use Rattle.file_commands.specs.Inputs.{name_at}
 use Rattle.file_commands.specs.Outcomes.{refused}
-use Rattle.file_commands.specs.Objects.{Each, FirstFault, OnEach}
+use Rattle.file_commands.specs.InputObjects.{Each, FirstFault, OnEach}
 
 -- ---- one at most
 

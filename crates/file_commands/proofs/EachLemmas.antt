@@ -5,7 +5,7 @@ use Rattle.std.specs.Vec.Iter.{into_iter_items, into_iter_len, into_iter_steps}
 use Rattle.std.specs.declared.vec.IntoIter.{IntoIter}
 use Rattle.std.proofs.Math.ListN.{drop_of_length-le}
 use Rattle.st_base.specs.declared.fault.Fault.{Fault}
-use Rattle.file_commands.specs.Objects.{Each, FirstFault}
+use Rattle.file_commands.specs.InputObjects.{Each, FirstFault}
 
 -- where nothing is left, all have come to what there is
 pub each_done : {A B : Type 0} (Holds : A → B → Type 0) (xs left : List A) (ys : List B) → left ≡ [] → ((rest : List B) → Each Holds left rest → Each Holds xs (ys ++ rest)) → Each Holds xs ys

@@ -18,7 +18,7 @@ use Rattle.unit_index.specs.Expanding.{IsExpanded, ExpandFault}
 use Rattle.st_base.specs.declared.fault.Refused.TheVariants as refusals
 use Rattle.aout_link.specs.Sources.{Source, IsLawful, HasUnits}
 use Rattle.aout_link.specs.Linking.{IsLinked, RefusesLink}
-use Rattle.aout_link.specs.Tables.{entries_of}
+use Rattle.aout_link.specs.NameTables.{entries_of}
 use Rattle.aout_link.specs.declared.linking.Image.{Image}
 use Rattle.bincl_match.specs.declared.mode.Mode.{Mode}
 use Rattle.query_text.specs.declared.query.Query.{Query}
@@ -34,15 +34,15 @@ use Rattle.command_line.specs.declared.limits.TheConstants.{MOST_NAMES}
 use Rattle.file_commands.specs.declared.outcome.Outcome.{Outcome}
 use Rattle.file_commands.specs.declared.outcome.TheConstants.{DONE}
 use Rattle.stabs_asm.specs.Assembling.{assembled}
-use Rattle.asm_statements.specs.Lines.{read_source}
+use Rattle.asm_statements.specs.SourceLines.{read_source}
 use Rattle.stabs_asm.specs.Listing.{listing}
 use Rattle.file_commands.specs.Checking.{check_text}
 use Rattle.file_commands.specs.Dump.{dump_text}
-use Rattle.command_line.specs.Words.{first}
+use Rattle.command_line.specs.CommandWords.{first}
 use Rattle.command_line.specs.Commands.{asked, inputs_of, most_of}
 use Rattle.file_commands.specs.Inputs.{loaded_inputs, few_inputs, inputs_from, after_content, name_at}
 use Rattle.file_commands.specs.Outcomes.{printed, usage, absent, read_fault, limit, refused}
-use Rattle.file_commands.specs.Replies.{text_end, OnWorld, RepliesOnWorld, RepliesOnObject, OnObject, Counts, Checks, Dumps, Lists, kept_object, Answers, RepliesTo, Means, IsOutcome, AreBytes}
+use Rattle.file_commands.specs.QueryOutcomes.{text_end, OnWorld, RepliesOnWorld, RepliesOnObject, OnObject, Counts, Checks, Dumps, Lists, kept_object, Answers, RepliesTo, Means, IsOutcome, AreBytes}
 use Rattle.file_commands.proofs.FewEntries.{IsWithin, loaded_within}
 use Rattle.file_commands.proofs.LinkLaws.{on_files, ask_files}
 

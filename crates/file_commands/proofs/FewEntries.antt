@@ -12,13 +12,13 @@ use Rattle.aout_object.specs.Objects.{named_of, named_entry, file_of}
 use Rattle.aout_object.specs.Objects.{Contents as Object}
 use Rattle.aout_object.proofs.MakeLemmas.{length-file_of}
 use Rattle.aout_link.specs.Sources.{Source}
-use Rattle.aout_link.specs.Tables.{entries_of}
+use Rattle.aout_link.specs.NameTables.{entries_of}
 use Rattle.file_commands.specs.declared.inputs.Cause.TheVariants as cause
 use Rattle.file_commands.specs.declared.inputs.Inputs.{Inputs}
 use Rattle.file_commands.specs.declared.inputs.Inputs.TheVariants.{All, Fault as Faulty, TooMuch, TooMany}
 use Rattle.command_line.specs.declared.limits.TheConstants.{MOST_NAMES}
 use Rattle.file_commands.specs.Inputs.{loaded_inputs, few_inputs, inputs_from, after_content, within_total}
-use Rattle.file_commands.specs.Objects.{Each, Spells, IsSource}
+use Rattle.file_commands.specs.InputObjects.{Each, Spells, IsSource}
 
 -- ---- what is loaded is within the total
 

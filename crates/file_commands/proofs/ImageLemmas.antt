@@ -40,9 +40,9 @@ use Rattle.aout_link.specs.Sources.{Source, IsLawful}
 use Rattle.aout_link.specs.Linking.{IsGroupingOf, IsLinked, image_placed}
 use Rattle.aout_link.specs.Moves.{all_moves, fronts}
 use Rattle.nlist_codec.specs.Kinds.{defines_name}
-use Rattle.aout_link.specs.Tables.{known_of, known_by, definitions, moved_entry, moved_all, moved_value, common_at, placed_commons, common_sizes, bss_end, names_table}
+use Rattle.aout_link.specs.NameTables.{known_of, known_by, definitions, moved_entry, moved_all, moved_value, common_at, placed_commons, common_sizes, bss_end, names_table}
 use Rattle.aout_link.specs.Placing.{Frame, placed_entry, placed_all, with_known, amount, relocated, zeros_for, text_of, data_of, text_frame, data_frame, text_part, data_part, texts, datas, IsPlaced}
-use Rattle.aout_link.specs.Making.{CanBeMade, parts_of, image_of, size_fault}
+use Rattle.aout_link.specs.ImageMaking.{CanBeMade, parts_of, image_of, size_fault}
 use Rattle.aout_link.specs.declared.definitions.Known.{Known}
 use Rattle.aout_link.specs.declared.moves.Moves.{Moves}
 use Rattle.aout_link.specs.declared.placed.Placed.{Placed}
@@ -51,7 +51,7 @@ use Rattle.bincl_match.specs.declared.mode.Mode.{Mode}
 use Rattle.bincl_match.specs.declared.mode.Mode.TheVariants.{Keep, Merge}
 use Rattle.aout_link.proofs.MergedLemmas.{all_changed, can_merged}
 use Rattle.aout_link.proofs.MakingLemmas.{can_be_made, no_kind_fault}
-use Rattle.file_commands.specs.Objects.{Each, Spells, IsSource}
+use Rattle.file_commands.specs.InputObjects.{Each, Spells, IsSource}
 
 -- ---- bytes
 
@@ -384,7 +384,7 @@ entries_are_bytes : (big : Bool) (es : List Entry) → IsBytes (entries_bytes bi
 entries_are_bytes big [] = tt
 entries_are_bytes big (e ∷ es) = IsBytes-append (entry_bytes big e) (entries_bytes big es) (entry_is_bytes big e) (entries_are_bytes big es)
 
-header_is_bytes : (h : Header) → IsBytes (header_bytes h)
+pub header_is_bytes : (h : Header) → IsBytes (header_bytes h)
 header_is_bytes h =
     let big = is_big h.order in
     let data_relocs = bytes_of big 4 h.data_relocs in

@@ -25,7 +25,7 @@ use Rattle.aout_link.specs.Accepted.{Accepted}
 use Rattle.aout_link.specs.Linking.{IsLinked, RefusesLink}
 use Rattle.aout_link.specs.Refusals.{list_fault}
 use Rattle.aout_link.specs.Sources.{Source, IsLawful, HasUnits}
-use Rattle.aout_link.specs.Tables.{entries_of}
+use Rattle.aout_link.specs.NameTables.{entries_of}
 use Rattle.aout_link.specs.declared.linking.Image.{Image}
 use Rattle.bincl_match.specs.declared.mode.Mode.{Mode}
 use Rattle.bincl_match.specs.declared.mode.Mode.TheVariants.{Merge}
@@ -42,10 +42,10 @@ use Rattle.file_commands.specs.declared.outcome.TheConstants.{DONE, REFUSED, LIS
 use Rattle.command_line.specs.Commands.{inputs_of, most_of}
 use Rattle.file_commands.specs.Inputs.{loaded_inputs, after_content, within_total, name_at}
 use Rattle.file_commands.specs.Outcomes.{printed, absent, read_fault, limit, refused, list_refused, list_refused_at}
-use Rattle.file_commands.specs.Objects.{Each, Spells, IsSource, OnObjects, OnSources}
-use Rattle.file_commands.specs.Linking.{image_text, kept_image, entry_name, is_about_name, list_outcome, LinksSources, LinksFiles}
+use Rattle.file_commands.specs.InputObjects.{Each, Spells, IsSource, OnObjects, OnSources}
+use Rattle.file_commands.specs.LinkOutcomes.{image_text, kept_image, entry_name, is_about_name, list_outcome, LinksSources, LinksFiles}
 use Rattle.file_commands.specs.Asking.{end_of, RepliesOnImage, AsksSources, AsksFiles}
-use Rattle.file_commands.specs.Replies.{text_end, IsWorld, RepliesOnWorld, RepliesOnObject, OnObject, Answers, RepliesTo, Means, IsOutcome}
+use Rattle.file_commands.specs.QueryOutcomes.{text_end, IsWorld, RepliesOnWorld, RepliesOnObject, OnObject, Answers, RepliesTo, Means, IsOutcome}
 use Rattle.file_commands.specs.ListImages.{AnswersAsWorld, IsAcceptedList, IsListImage, IsImageFile, IsAskedOf}
 use Rattle.file_commands.proofs.LineLemmas.{Prints, prints_absent, prints_read_fault, prints_limit, prints_refused, prints_list, prints_list_at}
 use Rattle.file_commands.proofs.ImageLemmas.{IsFileObject, sources_fields, linked_is}

@@ -9,7 +9,7 @@ use Rattle.aout_link.specs.Linking.{IsLinked, image_end}
 use Rattle.aout_link.specs.declared.linking.Image.{Image}
 use Rattle.bincl_match.specs.declared.mode.Mode.{Mode}
 use Rattle.file_commands.specs.Asking.{end_of}
-use Rattle.file_commands.specs.Replies.{text_end}
+use Rattle.file_commands.specs.QueryOutcomes.{text_end}
 
 module _ (mode : Mode) (base : ℕ) (os : List Source) (old new : ℕ) (image : Image) (linked : IsLinked mode base os old new image) where
   -- the units and the externals of the placed entries

@@ -15,4 +15,5 @@ pub mod ImageLemmas
 pub mod ImageQueries
 mod OutcomeExamples
 mod LinkExamples
+mod ListExamples
 mod CheckExamples

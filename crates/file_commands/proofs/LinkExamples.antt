@@ -13,8 +13,8 @@ use Rattle.aout_link.specs.Refusals.{fault_in}
 use Rattle.file_commands.specs.declared.inputs.Inputs.TheVariants.{TooMany}
 use Rattle.file_commands.specs.Inputs.{loaded_inputs}
 use Rattle.file_commands.specs.Outcomes.{limit, list_refused, list_refused_at}
-use Rattle.file_commands.specs.Objects.{Each, FirstFault}
-use Rattle.file_commands.specs.Linking.{list_outcome}
+use Rattle.file_commands.specs.InputObjects.{Each, FirstFault}
+use Rattle.file_commands.specs.LinkOutcomes.{list_outcome}
 
 -- ---- too many names
 

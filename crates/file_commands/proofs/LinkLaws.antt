@@ -21,7 +21,7 @@ use Rattle.query_text.specs.declared.query.Query.{Query}
 use Rattle.query_text.specs.Replies as replies
 use Rattle.aout_link.specs.Sources.{Source, IsLawful, HasUnits}
 use Rattle.aout_link.specs.Linking.{IsLinked, RefusesLink}
-use Rattle.aout_link.specs.Tables.{entries_of}
+use Rattle.aout_link.specs.NameTables.{entries_of}
 use Rattle.aout_link.specs.declared.linking.Image.{Image}
 use Rattle.bincl_match.specs.declared.mode.Mode.{Mode}
 use Rattle.bincl_match.specs.declared.mode.Mode.TheVariants.{Merge}
@@ -29,9 +29,9 @@ use Rattle.aout_link.proofs.SourceLemmas.{lawful_of}
 use Rattle.file_commands.specs.declared.outcome.Outcome.{Outcome}
 use Rattle.file_commands.specs.declared.outcome.TheConstants.{DONE}
 use Rattle.file_commands.specs.Outcomes.{printed}
-use Rattle.file_commands.specs.Replies.{text_end}
-use Rattle.file_commands.specs.Objects.{Each, Spells, SpellsNone, IsSource, HasNoUnits, OnObjects, OnSources}
-use Rattle.file_commands.specs.Linking.{image_text, kept_image, list_outcome, LinksSources, LinksFiles}
+use Rattle.file_commands.specs.QueryOutcomes.{text_end}
+use Rattle.file_commands.specs.InputObjects.{Each, Spells, SpellsNone, IsSource, HasNoUnits, OnObjects, OnSources}
+use Rattle.file_commands.specs.LinkOutcomes.{image_text, kept_image, list_outcome, LinksSources, LinksFiles}
 use Rattle.file_commands.specs.Asking.{end_of, RepliesOnImage, AsksSources, AsksFiles}
 use Rattle.file_commands.proofs.EachLaws.{on_each_once, on_each}
 use Rattle.file_commands.proofs.FewEntries.{few_entries}

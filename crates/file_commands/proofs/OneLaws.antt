@@ -27,10 +27,10 @@ use Rattle.file_commands.specs.declared.inputs.Inputs.{Inputs}
 use Rattle.file_commands.specs.declared.inputs.Inputs.TheVariants.{All, Fault as Faulty, TooMuch, TooMany}
 use Rattle.file_commands.specs.declared.outcome.Outcome.{Outcome}
 use Rattle.file_commands.specs.declared.outcome.TheConstants.{DONE}
-use Rattle.command_line.specs.Words.{first}
+use Rattle.command_line.specs.CommandWords.{first}
 use Rattle.command_line.specs.Commands.{asked}
 use Rattle.file_commands.specs.Outcomes.{printed, refused}
-use Rattle.file_commands.specs.Replies.{text_end, OnWorld, RepliesOnWorld, RepliesOnObject, OnObject, Counts, Checks, Dumps, Lists, Answers, RepliesTo, Means, IsOutcome}
+use Rattle.file_commands.specs.QueryOutcomes.{text_end, OnWorld, RepliesOnWorld, RepliesOnObject, OnObject, Counts, Checks, Dumps, Lists, Answers, RepliesTo, Means, IsOutcome}
 use Rattle.file_commands.proofs.LinkLaws.{files_once, asks_once}
 
 module _ (one_fault : (end : ℕ) (entries : List Named) (f g : Fault) → UnitsFault end entries f → UnitsFault end entries g → f ≡ g)

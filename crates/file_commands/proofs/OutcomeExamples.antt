@@ -15,9 +15,9 @@ use Rattle.file_commands.specs.declared.inputs.Cause.TheVariants as cause
 use Rattle.file_commands.specs.declared.inputs.Inputs.TheVariants.{All, Fault, TooMuch}
 use Rattle.file_commands.specs.declared.outcome.Outcome.{Outcome}
 use Rattle.file_commands.specs.Outcomes.{printed, usage, absent, limit, refused, is_status}
-use Rattle.file_commands.specs.Causes.{Gained, GainedFront, Lacks}
+use Rattle.file_commands.specs.RunCauses.{Gained, GainedFront, Lacks}
 use Rattle.file_commands.specs.Inputs.{loaded_inputs}
-use Rattle.file_commands.specs.Replies.{IsOutcome, Means}
+use Rattle.file_commands.specs.QueryOutcomes.{IsOutcome, Means}
 
 -- ---- statuses and lines
 

@@ -9,7 +9,7 @@ use Rattle.aout_object.specs.Objects.{named_of, file_of}
 use Rattle.aout_object.specs.Objects.{Contents as Object}
 use Rattle.st_base.specs.declared.fault.TheConstants.{TOO_LARGE}
 use Rattle.stabs_asm.specs.Assembling.{assembled}
-use Rattle.asm_statements.specs.Lines.{read_source}
+use Rattle.asm_statements.specs.SourceLines.{read_source}
 use Rattle.stabs_asm.specs.Listing.{listing}
 use Rattle.file_commands.specs.Checking.{check_text}
 use Rattle.file_commands.specs.Dump.{dump_text}
@@ -22,15 +22,15 @@ use Rattle.file_commands.specs.declared.outcome.Content.{Content}
 use Rattle.file_commands.specs.declared.outcome.Outcome.{Outcome}
 use Rattle.file_commands.specs.declared.outcome.TheConstants.{DONE, USAGE, REFUSED, LIST_REFUSED, ABSENT, READ_FAULT, WRITE_FAULT, NO_MEMORY, LIMIT}
 use Rattle.command_line.specs.Commands.{IsWritten}
-use Rattle.command_line.specs.Words.{first}
+use Rattle.command_line.specs.CommandWords.{first}
 use Rattle.file_commands.specs.Outcomes.{printed, limit, refused, list_refused, list_refused_at, kept, kept_with, is_status}
 use Rattle.file_commands.specs.Inputs.{name_at}
 use Rattle.aout_link.specs.Sources.{Source}
 use Rattle.bincl_match.specs.declared.mode.Mode.{Mode}
-use Rattle.file_commands.specs.Objects.{OnEach}
-use Rattle.file_commands.specs.Linking.{image_text, entry_name, is_about_name, list_outcome, LinksSources, LinksObjects}
+use Rattle.file_commands.specs.InputObjects.{OnEach}
+use Rattle.file_commands.specs.LinkOutcomes.{image_text, entry_name, is_about_name, list_outcome, LinksSources, LinksObjects}
 use Rattle.file_commands.specs.Asking.{AsksSources, AsksObjects}
-use Rattle.file_commands.specs.Replies.{OnWorld, RepliesOnWorld, RepliesOnObject, OnObject, Counts, Checks, Dumps, Lists, kept_object, Answers}
+use Rattle.file_commands.specs.QueryOutcomes.{OnWorld, RepliesOnWorld, RepliesOnObject, OnObject, Counts, Checks, Dumps, Lists, kept_object, Answers}
 use Rattle.file_commands.proofs.LineLemmas.{Prints, prints_of, prints_limit, prints_refused, prints_list, prints_list_at}
 
 -- where nothing is stored, what is stored has any name

@@ -11,14 +11,14 @@ use Rattle.query_text.specs.declared.query.Query.{Query}
 use Rattle.command_line.specs.declared.command.Command.{Command}
 use Rattle.command_line.specs.declared.command.Command.TheVariants as commands
 use Rattle.file_commands.specs.declared.outcome.Outcome.{Outcome}
-use Rattle.command_line.specs.Words.{first}
+use Rattle.command_line.specs.CommandWords.{first}
 use Rattle.file_commands.specs.declared.outcome.TheConstants.{DONE}
 use Rattle.file_commands.specs.Checking.{check_text}
 use Rattle.file_commands.specs.Outcomes.{printed, refused}
 use Rattle.bincl_match.specs.declared.mode.Mode.{Mode}
-use Rattle.file_commands.specs.Linking.{LinksFiles}
+use Rattle.file_commands.specs.LinkOutcomes.{LinksFiles}
 use Rattle.file_commands.specs.Asking.{AsksFiles}
-use Rattle.file_commands.specs.Replies.{text_end, WorldFault, OnWorld, Counts, OnObject, IsObjectOf, Answers}
+use Rattle.file_commands.specs.QueryOutcomes.{text_end, WorldFault, OnWorld, Counts, OnObject, IsObjectOf, Answers}
 
 -- the fault of entries, where text ends at an address, is that of the object whose entries they are and whose text ends there
 pub world_fault : (object : Object) (end : ℕ) (entries : List Named) (f : Fault) → end ≡ text_end object → entries ≡ named_of object

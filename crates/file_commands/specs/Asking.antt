@@ -16,8 +16,8 @@ use Rattle.bincl_match.specs.declared.mode.Mode.TheVariants.{Merge}
 use Rattle.file_commands.specs.declared.outcome.Outcome.{Outcome}
 use Rattle.file_commands.specs.declared.outcome.TheConstants.{DONE}
 use Rattle.file_commands.specs.Outcomes.{printed}
-use Rattle.file_commands.specs.Objects.{OnObjects, OnSources}
-use Rattle.file_commands.specs.Linking.{image_text, list_outcome}
+use Rattle.file_commands.specs.InputObjects.{OnObjects, OnSources}
+use Rattle.file_commands.specs.LinkOutcomes.{image_text, list_outcome}
 
 -- the address at which text ends in an image
 abbrev pub end_of : Image → ℕ

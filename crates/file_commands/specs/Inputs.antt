@@ -8,7 +8,7 @@ use Rattle.file_commands.specs.declared.inputs.Cause.TheVariants as cause
 use Rattle.file_commands.specs.declared.inputs.Inputs.{Inputs}
 use Rattle.file_commands.specs.declared.inputs.Inputs.TheVariants.{All, Fault, TooMuch, TooMany}
 use Rattle.command_line.specs.declared.limits.TheConstants.{MOST_NAMES}
-use Rattle.file_commands.specs.Causes.{FilesSeen, Lacks}
+use Rattle.file_commands.specs.RunCauses.{FilesSeen, Lacks}
 
 -- ---- over files that tell their contents and do not fail
 

@@ -1,10 +1,10 @@
 pub mod Outcomes
-pub mod Causes
+pub mod RunCauses
 pub mod Inputs
 pub mod Dump
 pub mod Checking
-pub mod Objects
-pub mod Linking
+pub mod InputObjects
+pub mod LinkOutcomes
 pub mod Asking
-pub mod Replies
+pub mod QueryOutcomes
 pub mod ListImages

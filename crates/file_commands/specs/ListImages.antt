@@ -1,6 +1,6 @@
--- Lists of objects that are accepted, the image of such a list, and its file: what is placed of the objects, of whose header ranges those
--- are kept that the mode says, and bytes on which every query is answered as the units of the unmerged objects define. That images are
--- kept this way is this project's own.
+-- Which lists of object files are accepted, what the image of such a list is, and which bytes are the file of that image. The image has
+-- what is placed of the objects, and of their header ranges those that the mode keeps. Every query on its file is answered as the units of
+-- the unmerged objects define. That images are kept this way is this project's own.
 use Rattle.std.specs.Prelude.{◌≡◌, ◌↔◌, ℕ, List, ◌++◌, Some, None}
 use Rattle.std.specs.FinMap.{get}
 use Rattle.outside.specs.Causes.{Contents}
@@ -17,7 +17,7 @@ use Rattle.query_text.specs.declared.query.Query.{Query}
 use Rattle.query_text.specs.Replies as replies
 use Rattle.aout_link.specs.Accepted.{Accepted}
 use Rattle.aout_link.specs.Linking.{IsGroupingOf, IsLinked, IsPlanned, image_end, image_placed}
-use Rattle.aout_link.specs.Making.{size_fault}
+use Rattle.aout_link.specs.ImageMaking.{size_fault}
 use Rattle.aout_link.specs.Placing.{IsPlaced}
 use Rattle.aout_link.specs.Sources.{Source}
 use Rattle.aout_link.specs.declared.linking.Image.{Image}
@@ -31,20 +31,21 @@ use Rattle.command_line.specs.declared.limits.TheConstants.{OBJECT_LIMIT}
 use Rattle.file_commands.specs.declared.outcome.Outcome.{Outcome}
 use Rattle.command_line.specs.Commands.{asked}
 use Rattle.file_commands.specs.Inputs.{loaded_inputs}
-use Rattle.file_commands.specs.Objects.{Each, Spells, IsSource}
-use Rattle.file_commands.specs.Linking.{image_text}
-use Rattle.file_commands.specs.Replies.{IsOutcome, RepliesOnWorld}
+use Rattle.file_commands.specs.InputObjects.{Each, Spells, IsSource}
+use Rattle.file_commands.specs.LinkOutcomes.{image_text}
+use Rattle.file_commands.specs.QueryOutcomes.{IsOutcome, RepliesOnWorld}
 
 -- ---- queries of an image
 
--- every query on a file that holds these bytes has the reply on this world as its outcome, and no other, whatever else the files hold
+-- whatever else the files hold: a query on a file with these bytes has exactly one outcome, the reply on this world
 abbrev pub AnswersAsWorld : List ℕ → World → Type 0
 AnswersAsWorld bytes world = (words : List (List ℕ)) (m : Contents) (file : List ℕ) (query : Query) (o : Outcome)
     → asked words ≡ asks.Command (commands.Query file query) → get m file ≡ Some bytes → (IsOutcome words m o ↔ RepliesOnWorld query world o)
 
 -- ---- lists of objects
 
--- the files with these names are loaded, each holds an object, and the entries of each object have units: these are the sources in order
+-- these are the sources of the files with these names, in order: each file is there and is loaded, its text spells an object, and the
+-- entries of the object have units
 pub record AreSources (m : Contents) (names : List (List ℕ)) (sources : List Source) : Type 0 where
   pub texts : List (List ℕ)
   pub loaded : loaded_inputs m OBJECT_LIMIT FILE_LIMIT names ≡ All texts
@@ -52,7 +53,8 @@ pub record AreSources (m : Contents) (names : List (List ℕ)) (sources : List S
   pub spelled : Each Spells texts objects
   pub are : Each IsSource objects sources
 
--- the list of files with these names is accepted: its sources are, and the image that is made of them from this address on fits a file
+-- the list of files with these names is accepted: the files have sources, these are accepted, and the image that is linked of them, with
+-- text from this address on, fits a file
 pub record IsAcceptedList (mode : Mode) (base : ℕ) (names : List (List ℕ)) (m : Contents) : Type 0 where
   pub sources : List Source
   pub are : AreSources m names sources
@@ -61,9 +63,9 @@ pub record IsAcceptedList (mode : Mode) (base : ℕ) (names : List (List ℕ)) (
 
 -- ---- images of lists
 
--- this is the image of that list: what is placed of its objects, of whose header ranges those are kept that the mode says, which is every
--- range, or exactly the first of each greatest matching class; its entries are the placed ones, those of ranges that are not kept being left
--- out; and the placed entries, as they were before, are this world: their units and their externals
+-- this is the image of that list. Its entries are those placed of the objects, without those of header ranges that are not kept. The mode
+-- says which are kept: every range, or exactly the first of each greatest matching class. The world has the units and the externals of the
+-- placed entries, before any range is left out
 pub record IsListImage (mode : Mode) (base : ℕ) (names : List (List ℕ)) (m : Contents) (image : Image) (world : World) : Type 0 where
   pub sources : List Source
   pub are : AreSources m names sources
@@ -87,7 +89,8 @@ pub record IsImageFile (mode : Mode) (base : ℕ) (names : List (List ℕ)) (m :
   pub spells : ObjectSpells image.object bytes
   pub answers : AnswersAsWorld bytes world
 
--- this text is the line of the image that merging makes of that list, and then the reply on the world of the placed entries
+-- this text answers a query of that list: the line that tells the image which merging makes of it, and then the reply on the world of
+-- the placed entries
 pub record IsAskedOf (names : List (List ℕ)) (query : Query) (m : Contents) (text : List ℕ) : Type 0 where
   pub image : Image
   pub world : World

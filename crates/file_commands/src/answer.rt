@@ -2,9 +2,9 @@
 
 ghost use Rattle.std.specs.Prelude.{◌≡◌, IfOk};
 ghost use Rattle.command_line.specs.Commands as commands;
-ghost use Rattle.command_line.specs.Words as words;
+ghost use Rattle.command_line.specs.CommandWords as words;
 ghost use Rattle.file_commands.specs.Inputs.{IsPlaced};
-ghost use Rattle.file_commands.specs.Replies.{Answers, RepliesTo};
+ghost use Rattle.file_commands.specs.QueryOutcomes.{Answers, RepliesTo};
 
 use crate::ask::ask_files;
 use crate::assemble::assemble_source;

@@ -4,7 +4,7 @@
 ghost use Rattle.std.specs.Prelude.{◌≡◌, IfOk};
 ghost use Rattle.type_graph.specs.declared.world.World.{World as WorldValue};
 ghost use Rattle.file_commands.specs.Asking as spec;
-ghost use Rattle.file_commands.specs.Replies.{IsWorld};
+ghost use Rattle.file_commands.specs.QueryOutcomes.{IsWorld};
 
 use crate::link::{image_text, name_at, refuse_list};
 use crate::objects::{check_objects, read_objects};

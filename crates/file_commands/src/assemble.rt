@@ -2,10 +2,10 @@
 
 ghost use Rattle.std.specs.Prelude.{◌≡◌, IfOk};
 ghost use Rattle.aout_object.specs.Objects.{file_of};
-ghost use Rattle.asm_statements.specs.Lines.{read_source};
+ghost use Rattle.asm_statements.specs.SourceLines.{read_source};
 ghost use Rattle.stabs_asm.specs.Assembling.{assembled};
 ghost use Rattle.file_commands.specs.Outcomes as outcomes;
-ghost use Rattle.file_commands.specs.Replies.{kept_object};
+ghost use Rattle.file_commands.specs.QueryOutcomes.{kept_object};
 
 use crate::outcome::{Outcome, kept, refused_or_limit};
 use aout_object::{Object, encode};

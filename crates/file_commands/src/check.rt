@@ -2,7 +2,7 @@
 
 ghost use Rattle.std.specs.Prelude.{◌≡◌, ◌+◌, IfOk};
 ghost use Rattle.file_commands.specs.Checking as spec;
-ghost use Rattle.file_commands.specs.Replies.{Checks, OnObject};
+ghost use Rattle.file_commands.specs.QueryOutcomes.{Checks, OnObject};
 
 use crate::objects::object_of;
 use crate::outcome::{DONE, Outcome, printed, refused};

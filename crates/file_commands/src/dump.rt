@@ -3,7 +3,7 @@
 ghost use Rattle.std.specs.Prelude.{◌≡◌, ◌++◌, ◌+◌, ◌^◌, ◌<◌, ◌≤◌, IfOk, OnOk, length, take, drop};
 ghost use Rattle.std.specs.Option.{option_copied};
 ghost use Rattle.file_commands.specs.Dump as spec;
-ghost use Rattle.file_commands.specs.Replies.{Dumps, OnObject};
+ghost use Rattle.file_commands.specs.QueryOutcomes.{Dumps, OnObject};
 
 use crate::objects::object_of;
 use crate::outcome::{DONE, Outcome, printed};

@@ -2,7 +2,7 @@
 
 ghost use Rattle.std.specs.Prelude.{◌≡◌, ℕ, nat_lt, length};
 ghost use Rattle.std.specs.List.{sum_by};
-ghost use Rattle.file_commands.specs.Causes.{seen};
+ghost use Rattle.file_commands.specs.RunCauses.{seen};
 ghost use Rattle.file_commands.specs.Inputs.{loaded_inputs, HasLoaded, LoadsNames};
 
 use command_line::MOST_NAMES;

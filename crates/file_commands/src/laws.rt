@@ -9,7 +9,7 @@ ghost use Rattle.file_commands.specs.declared.dump.TheConstants.{ROW};
 ghost use Rattle.file_commands.specs.declared.outcome.Outcome.{Outcome};
 ghost use Rattle.file_commands.specs.declared.outcome.TheConstants.{DONE, USAGE, REFUSED, LIST_REFUSED, ABSENT, READ_FAULT, WRITE_FAULT, NO_MEMORY, LIMIT};
 ghost use Rattle.file_commands.specs.ListImages.{IsAcceptedList, IsImageFile, IsAskedOf};
-ghost use Rattle.file_commands.specs.Replies.{AreBytes, IsOutcome, Means};
+ghost use Rattle.file_commands.specs.QueryOutcomes.{AreBytes, IsOutcome, Means};
 
 use crate::outcome::DONE;
 use aout_link::{accepted_laws, one_link};

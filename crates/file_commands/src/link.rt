@@ -2,7 +2,7 @@
 
 ghost use Rattle.std.specs.Prelude.{◌≡◌, ◌++◌, IfOk, OnOk, length, codes, decimal};
 ghost use Rattle.file_commands.specs.Inputs as inputs;
-ghost use Rattle.file_commands.specs.Linking as spec;
+ghost use Rattle.file_commands.specs.LinkOutcomes as spec;
 
 use crate::objects::{check_objects, read_objects};
 use crate::outcome::{Outcome, kept_with, limit, list_refused, list_refused_at, refused};

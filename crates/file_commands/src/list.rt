@@ -1,7 +1,7 @@
 //! `list FILE`: the assembly of the object that a file spells.
 
 ghost use Rattle.std.specs.Prelude.{IfOk};
-ghost use Rattle.file_commands.specs.Replies.{Lists, OnObject};
+ghost use Rattle.file_commands.specs.QueryOutcomes.{Lists, OnObject};
 
 use crate::objects::object_of;
 use crate::outcome::{DONE, Outcome, printed};

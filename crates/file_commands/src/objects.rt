@@ -2,8 +2,8 @@
 
 ghost use Rattle.std.specs.Prelude.{◌≡◌, Err, IfOk};
 ghost use Rattle.st_base.specs.declared.fault.Fault.{Fault as FaultValue};
-ghost use Rattle.file_commands.specs.Objects.{ComesTo, Spells, SpellsNone, IsSource, HasNoUnits};
-ghost use Rattle.file_commands.specs.Replies.{IsObjectOf};
+ghost use Rattle.file_commands.specs.InputObjects.{ComesTo, Spells, SpellsNone, IsSource, HasNoUnits};
+ghost use Rattle.file_commands.specs.QueryOutcomes.{IsObjectOf};
 
 use crate::outcome::{Outcome, refused};
 use aout_link::Checked;

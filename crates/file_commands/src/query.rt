@@ -1,7 +1,7 @@
 //! `query FILE QUERY...`: the reply on the world of the object that a file spells.
 
 ghost use Rattle.std.specs.Prelude.{◌<◌, ◌^◌, length, IfOk};
-ghost use Rattle.file_commands.specs.Replies.{RepliesOnWorld, RepliesOnObject, OnObject};
+ghost use Rattle.file_commands.specs.QueryOutcomes.{RepliesOnWorld, RepliesOnObject, OnObject};
 
 use crate::objects::object_of;
 use crate::outcome::{DONE, Outcome, printed, refused};

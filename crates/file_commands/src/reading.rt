@@ -5,7 +5,7 @@ ghost use Rattle.st_base.specs.declared.fault.Fault.{Fault};
 ghost use Rattle.st_base.specs.declared.fault.Refused.{Refused};
 ghost use Rattle.aout_object.specs.Objects.{named_of};
 ghost use Rattle.unit_index.specs.Expanding.{IsExpanded, ExpandFault};
-ghost use Rattle.file_commands.specs.Replies.{IsWorld, WorldFault, text_end};
+ghost use Rattle.file_commands.specs.QueryOutcomes.{IsWorld, WorldFault, text_end};
 
 use aout_object::Object;
 use nlist_codec::Named;

@@ -10,7 +10,7 @@ use Rattle.stab_symbols.specs.declared.tree.Key.{Key}
 use Rattle.stab_symbols.specs.Keys.{key_of}
 use Rattle.stab_symbols.specs.Surface.{same_key}
 use Rattle.stab_symbols.specs.TypeWalks.{Visited}
-use Rattle.grammar_tests.specs.Listing.{GoesOnAtListed}
+use Rattle.grammar_tests.specs.KeyListing.{GoesOnAtListed}
 
 on_ok : {A E P Q : Type 0} (r : Result A E) → OnOk r P → (P → Q) → OnOk r Q
 on_ok (Ok x) p f = f p

@@ -6,13 +6,13 @@ ghost use Rattle.stab_symbols.specs.Surface.{same_key, surface_of};
 
 use crate::holds::all_hold;
 use crate::stab_grammar_tests::{CALLS, StabGrammar};
+use indexmap::IndexSet;
 use st_base::{List, Memory, Text};
 use stab_grammar::{
     DefinitionVisitor, Key, Num, NumberVisitor, TypeTree, key_of, print_placed, print_placed_by,
     print_type, visit_definitions, visit_numbers, visit_surface,
 };
 use std::alloc::Global;
-use std::collections::BTreeMap;
 use test_tables::Answer;
 
 // ---- visitors that tell what they visit
@@ -97,7 +97,7 @@ struct Listed<'a> {
 }
 
 impl<'a> NumberVisitor for Listed<'a> {
-    ghost use Rattle.grammar_tests.specs.Listing.{GoesOnAtListed};
+    ghost use Rattle.grammar_tests.specs.KeyListing.{GoesOnAtListed};
 
     type Stop = ();
 
@@ -143,16 +143,16 @@ fn put_placed(alloc: Global, tree: &TypeTree, out: &mut Text) -> Result<(), Memo
     }
 }
 
-/// The same three keys with their places.
-fn three_places(alloc: Global) -> Result<BTreeMap<Key, usize>, Memory> {
-    let mut places = BTreeMap::new(alloc);
-    places.insert(key_of(&Num::Pair(0, 2)), 0)?;
-    places.insert(key_of(&Num::Plain(1)), 1)?;
-    places.insert(key_of(&Num::Pair(1, 3)), 2)?;
+/// The same three keys as a set.
+fn three_places(alloc: Global) -> Result<IndexSet<Key>, Memory> {
+    let mut places = IndexSet::new(alloc);
+    places.insert(key_of(&Num::Pair(0, 2)))?;
+    places.insert(key_of(&Num::Plain(1)))?;
+    places.insert(key_of(&Num::Pair(1, 3)))?;
     Ok(places)
 }
 
-fn put_mapped(alloc: Global, tree: &TypeTree, out: &mut Text) -> Result<(), Memory> {
+fn put_placed_by(alloc: Global, tree: &TypeTree, out: &mut Text) -> Result<(), Memory> {
     let places = three_places(alloc)?;
     print_placed_by(tree, &places, out)
 }
@@ -168,7 +168,7 @@ pub fn put_walk(call: &str, tree: &TypeTree, out: &mut Answer) {
             out.wrote(written);
         }
         "print_placed_by" => {
-            let written = put_mapped(out.alloc, tree, &mut out.text);
+            let written = put_placed_by(out.alloc, tree, &mut out.text);
             out.wrote(written);
         }
         _ => out.refuse(),

@@ -48,7 +48,7 @@ goes_once = refl
 
 -- ---- a header inside another
 
--- `x` begins before `y`, which it includes, and goes on behind it
+-- `x` begins before `y`, which it includes, and goes on after it
 abbrev nested : List Named
 nested =
     en N_SO b 0 ∷ en N_BINCL x 0 ∷ en N_LSYM i 0 ∷ en N_BINCL y 0 ∷ en N_LSYM j 0 ∷ en N_SLINE [] 4 ∷ en N_EINCL [] 0 ∷ en N_LSYM i 0 ∷ en N_EINCL [] 0
@@ -58,7 +58,7 @@ nested =
 abbrev outer_goes : Grouping
 outer_goes = record { kept = 0 ∷ 0 ∷ 2 ∷ []; instance = 5 ∷ 5 ∷ 6 ∷ [] }
 
--- the entries of `x` go, before `y` and behind it, and its N_EINCL goes; those of `y` stay, a line entry among them
+-- the entries of `x` go, before `y` and after it, and its N_EINCL goes; those of `y` stay, a line entry among them
 inner_stays : merged outer_goes (en N_SO a 0 ∷ en N_BINCL x 0 ∷ en N_EINCL [] 0 ∷ nested)
     ≡ en N_SO a 0 ∷ en N_BINCL x 5 ∷ en N_EINCL [] 0 ∷ en N_SO b 0 ∷ en N_EXCL x 5 ∷ en N_BINCL y 6 ∷ en N_LSYM j 0 ∷ en N_SLINE [] 4 ∷ en N_EINCL [] 0
     ∷ en N_SLINE [] 8 ∷ []

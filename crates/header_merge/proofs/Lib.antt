@@ -10,4 +10,3 @@ pub mod GoneLemmas
 pub mod RowLemmas
 pub mod WorldLemmas
 pub mod LawLemmas
-pub mod WalkLemmas

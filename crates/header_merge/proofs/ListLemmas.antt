@@ -25,7 +25,7 @@ get_there (x ∷ xs) (suc k) within = get_there xs k (omega arith)
 pub index_is : (xs : List ℕ) (k d : ℕ) (o : Option ℕ) → o ≡ slice_get xs k → unwrap_or o d ≡ slice_index_or xs k d
 index_is xs k d o is = ap (λ z. unwrap_or z d) is ∙ unwrap_or-slice_get xs k d
 
--- an item for which another one is put in, and those behind it
+-- an item for which another one is put in, and those after it
 pub taken_out : {A : Type 0} (xs new : List A) (k : ℕ) (x other : A) → k < length xs → slice_get xs k ≡ Some x → new ≡ slice_set xs k other
     → drop k xs ≡ x ∷ drop (k + 1) new
 taken_out xs new k x other within is set_is =

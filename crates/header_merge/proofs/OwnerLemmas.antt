@@ -134,7 +134,7 @@ module _ (ranges : List RangeOf) (g : Grouping) (rows : List Row) (lawful : IsLa
   abbrev owner : RangeOf → RangeOf → Owner
   owner x y = record { unit = x.unit; file = x.file; owner_unit = y.unit; owner_file = y.file }
 
-  -- that of a header, told by ranges
+  -- that of a header, given by ranges
   owner_by : (x y : RangeOf) (r q : Row) → r.unit ≡ x.unit → r.file ≡ x.file → q.unit ≡ y.unit → q.file ≡ y.file → owned_by r (Some q) ≡ owner x y
   owner_by x y r q unit file owner_unit owner_file =
       ap (λ z. let o : Owner = record { unit = z; file = r.file; owner_unit = q.unit; owner_file = q.file } in o) unit

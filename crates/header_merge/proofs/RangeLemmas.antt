@@ -1,4 +1,4 @@
--- The ranges of units by places: header f of a unit is at place f behind the headers of the units before.
+-- The ranges of units by places: header f of a unit is at place f after the headers of the units before.
 use Rattle.std.proofs.Common.{◌≡◌, ℕ, zero, suc, ◌+◌, ◌<◌, ◌⊎◌, inl, inr, List, [], ◌∷◌, length, Some, refl, ap, ◌∙◌, arith, map, slice_get}
 use Rattle.std.proofs.lemmas.Option.{slice_get_within}
 use Rattle.unit_outlines.specs.declared.outline_types.HeaderMark.{HeaderMark}
@@ -52,7 +52,7 @@ of_header unit file hs fs k x is =
       is = some_is (slice_get (ranges_at unit file hs fs) k) x (range_at unit (file + k) h.0 fs) is (ranges_get unit file hs fs k (file + k) h.0 h.1 refl);
     }
 
--- ---- units one behind the other
+-- ---- units one after the other
 
 -- the ranges of these spans, the first of which has this number
 abbrev pub ranges_in : ℕ → List UnitSpan → List (List Filed) → List RangeOf

@@ -42,12 +42,12 @@ some_or_other : (b : Bool) (n m : ℕ) → cond b (Some n) (Some m) ≡ None →
 some_or_other true n m none = absurd cc
 some_or_other false n m none = absurd cc
 
--- an N_EXCL in an object is told
+-- an N_EXCL in an object is reported
 excl_told : (within : Bool) (headers : ℕ) (e : Named) → e.kind ≡ N_EXCL → place_tell Object within headers e ≡ None → ⊥
 excl_told within headers e is none =
     some_or_other (not within) NO_UNIT EXCLUDED (sym (ap (λ k. place_tell Object within headers (record e { kind = k })) is) ∙ none)
 
--- so an entry that is not told is none
+-- so an entry that is not reported is none
 no_excl : (within : Bool) (headers : ℕ) (e : Named) → place_tell Object within headers e ≡ None → IsNoExcl e
 no_excl within headers e none = by_case (e.kind == N_EXCL) refl where
   by_case : (b : Bool) → (e.kind == N_EXCL) ≡ b → IsNoExcl e
@@ -92,7 +92,7 @@ one_or_none e o s more = by_case (e.kind == N_SO) (is_empty e.name) (ends_in 47 
   by_case true false true h k l = inl (rw (h, k, l) refl)
   by_case true false false h k l = inr (rw (h, k, l) refl)
 
--- what holds of a unit and of those behind it
+-- what holds of a unit and of those after it
 all_step : (P : UnitSpan → Type 0) (e : Named) (o : Option Named) (s : UnitSpan) (more : List UnitSpan) → P s → AllByRecursion P more
     → AllByRecursion P (span_step (mark_at e o) s more)
 all_step P e o s more one all = by_case (one_or_none e o s more) where
@@ -129,7 +129,7 @@ one_more_header : (b : Bool) (n : ℕ) → n ≤ cond b (n + 1) n
 one_more_header true n = omega arith
 one_more_header false n = omega arith
 
--- the file behind entries is one of their headers, or 0
+-- the file after entries is one of their headers, or 0
 file_low : (back : List Named) (ends : ℕ) → file_in back ends ≤ headers_in back
 file_low [] ends = omega arith
 file_low (e ∷ back) ends = by_case (e.kind == N_SO) refl (λ n. file_low back n) where

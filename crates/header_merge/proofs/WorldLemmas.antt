@@ -79,7 +79,7 @@ files_get file (m ∷ hs) fs zero number h is same =
     ap (λ z. Some (file_of z m.name fs)) here ∙ ap (λ (z : HeaderMark). Some (file_of number z.name fs)) (some_is (Some m) m h refl is)
 files_get file (m ∷ hs) fs (suc k) number h is same = files_get (file + 1) hs fs k number h is (omega arith)
 
--- each N_EXCL of a unit takes over the symbols of its file, the number of which is behind its place
+-- each N_EXCL of a unit takes over the symbols of its file, the number of which is after its place
 abbrev AreTaken : Change → List Owner → List Unit → ℕ → ℕ → ℕ → ℕ → List Filed → Type 0
 AreTaken c owners units unit place file count fs =
     (k number : ℕ) → k < count → number ≡ file + k → c.kept (place + k) ≡ false
@@ -102,7 +102,7 @@ module _ (c : Change) (owners : List Owner) (units : List Unit) (unit first : �
       ap (λ b. cond b (file_with n.name (taken_over owners units unit (stands_for owners unit number))) (file_of number n.name (filter (is_left_item c first) fs))) excluded
       ∙ (λ i. file_with (name i) (taken refl i))
 
-  -- the files of the headers behind the first ones that are done
+  -- the files of the headers after the first ones that are done
   files_same : (done file : ℕ) (ms ns : List HeaderMark) → file ≡ suc done → AreMarksChanged c (first + done) ms ns → AllByRecursion IsOpened ms
       → AreTaken c owners units unit (first + done) file (length ms) fs
       → headers_expanded owners units unit file ns (files_from file (map header_name ns) (filter (is_left_item c first) fs)) ≡ files_from file (map header_name ms) fs

@@ -1,4 +1,4 @@
--- The headers of an image, told by the ranges of the entries that it was made of. Lemmas alone use these words.
+-- The headers of an image, given by the ranges of the entries that it was made of. Lemmas alone use these words.
 use Rattle.std.specs.Prelude.{◌≡◌, ℕ, not, List, Some, slice_get, slice_index, length}
 use Rattle.bincl_match.specs.declared.range.Grouping.{Grouping}
 use Rattle.bincl_match.specs.declared.range.RangeOf.{RangeOf}

@@ -1,5 +1,4 @@
--- What one walk over entries keeps of those before, while it changes them. Contracts of private functions alone use these words; that the
--- walk comes to `changed` of stab_units is in proofs/WalkLemmas.antt.
+-- What one walk over entries keeps of those before, while it changes them. Contracts of private functions alone use these words.
 use Rattle.std.specs.Prelude.{◌≡◌, ℕ, Option, cond, List, [], ◌∷◌, ◌++◌}
 use Rattle.st_base.specs.Stabs.{is_stab}
 use Rattle.nlist_codec.specs.declared.named.Named.{Named}
@@ -8,7 +7,7 @@ use Rattle.unit_outlines.specs.Marks.{is_header}
 use Rattle.unit_outlines.specs.Sweeps.{Nests}
 use Rattle.header_merge.specs.declared.merging.Walk.{Walk}
 
--- what an entry becomes behind so many headers, in this range
+-- what an entry becomes after so many headers, in this range
 abbrev pub changed_by : Change → ℕ → Option ℕ → Named → List Named
 changed_by c place range e =
     cond (is_header e.kind) (mark_changed c place e ∷ [])

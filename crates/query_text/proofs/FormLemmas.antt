@@ -3,8 +3,8 @@ use Rattle.std.proofs.Common.{◌≡◌, ◌<◌, ℕ, ◌+◌, List, ◌∷◌,
 use Rattle.std.specs.Prelude.{Ok, Err, max}
 use Rattle.std.proofs.Math.Seq.{drop-cons, drop-length}
 use Rattle.query_text.specs.declared.want.Keyword.{Keyword}
-use Rattle.query_text.specs.Places.{wrong_place}
-use Rattle.query_text.specs.Words.{is_wanted}
+use Rattle.query_text.specs.WordPlaces.{wrong_place}
+use Rattle.query_text.specs.QueryWords.{is_wanted}
 use Rattle.query_text.specs.Queries.{places_of, form_from, go_on}
 
 module _ (keywords : List Keyword) (words : List (List ℕ)) (at furthest : ℕ) (d : Keyword) (within : at < length keywords) where

@@ -3,7 +3,7 @@ use Rattle.std.proofs.Common.{◌≡◌, ◌≤◌, ◌<◌, ℕ, Bool, List, []
 use Rattle.std.proofs.Math.Seq.{drop-cons, drop-length}
 use Rattle.std.proofs.Math.ListN.{drop_of_length-le}
 use Rattle.std.proofs.lemmas.List.{length-drop}
-use Rattle.query_text.specs.Places.{wrong_from}
+use Rattle.query_text.specs.WordPlaces.{wrong_from}
 
 module _ {W : Type 0} (wants : W → List ℕ → Bool) where
   -- where there are places and no words, the first place is answered

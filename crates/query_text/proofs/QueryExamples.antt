@@ -4,8 +4,8 @@ use Rattle.std.specs.Prelude.{codes, decimal, Ok, Err}
 use Rattle.std.specs.Str.{is_utf8}
 use Rattle.readers.specs.Words.{number_at, digits_on}
 use Rattle.query_text.specs.declared.query.Query.TheVariants as queries
-use Rattle.query_text.specs.Places.{is_text}
-use Rattle.query_text.specs.Words.{spelled_address}
+use Rattle.query_text.specs.WordPlaces.{is_text}
+use Rattle.query_text.specs.QueryWords.{spelled_address}
 use Rattle.query_text.specs.Queries.{asked, form_from, Spell}
 use Rattle.query_text.proofs.TextLemmas.{ascii_text}
 

@@ -1,12 +1,11 @@
 -- Words that spell a query ask it, so they spell one at most; and words that ask none spell none.
-use Rattle.std.proofs.Common.{◌≡◌, ◌≤◌, ◌<◌, ◌^◌, ℕ, ◌+◌, ◌*◌, Bool, true, false, cond, List, [], ◌∷◌, length, Option, Some, None, refl, sym, ap, ◌∙◌, arith, eqb, ◌⊎◌, ⊎_elim}
+use Rattle.std.proofs.Common.{◌≡◌, ◌≤◌, ◌<◌, ◌^◌, ℕ, ◌+◌, ◌*◌, Bool, true, false, cond, List, [], ◌∷◌, length, Option, Some, None, refl, sym, ap, ◌∙◌, arith, eqb, ⊎_elim}
 use Rattle.std.specs.Prelude.{◌↔◌, Result, Ok, Err, codes, decimal, nat_le, nat_lt, ◌&&◌, option_and_then, unwrap_or}
 use Rattle.std.specs.Result.{result_ok}
 use Rattle.std.specs.Str.{is_utf8}
 use Rattle.std.proofs.lemmas.Bool.{and_parts, and_from, cases_Bool, leb-true, lt-ltb, eqb-true}
 use Rattle.std.proofs.lemmas.Fmt.{IsAscii-decimal}
 use Rattle.std.proofs.lemmas.Str.{IsUtf8-from_ascii, is_utf8-from_IsUtf8}
-use Rattle.readers.specs.Readers.{whole_of}
 use Rattle.readers.specs.Words.{number_at}
 use Rattle.readers.proofs.Cuts.{within_none}
 use Rattle.readers.proofs.First as first
@@ -20,7 +19,8 @@ use Rattle.query_text.specs.declared.want.TheConstants.{GREATEST_NUMBER, GREATES
 use Rattle.query_text.specs.declared.address.TheConstants.{MOST_DIGITS}
 use Rattle.query_text.specs.declared.want.Keyword.{Keyword}
 use Rattle.query_text.specs.declared.want.Keyword.TheVariants as keywords
-use Rattle.query_text.specs.Words.{spelled_number, spelled_address, number_of, digit_value, digits_on, digits_number}
+use Rattle.st_base.specs.Numerals.{digit_value}
+use Rattle.query_text.specs.QueryWords.{spelled_number, spelled_address, number_of, digits_on, digits_number}
 use Rattle.query_text.specs.Queries.{asked, asked_by, form_of, form_from, query_of, Spell, SaysWhat, Reads, IsRead}
 use Rattle.query_text.proofs.SpellLemmas.{asked-spell}
 use Rattle.query_text.proofs.TextLemmas.{ascii_text, all_ascii}

@@ -22,7 +22,7 @@ use Rattle.type_graph.specs.declared.world.External.{External}
 use Rattle.type_graph.specs.declared.world.World.{World}
 use Rattle.query_text.specs.declared.query.Query.TheVariants as queries
 use Rattle.st_base.specs.Numerals.{hex8}
-use Rattle.query_text.specs.Units.{unit_line, units_text}
+use Rattle.query_text.specs.UnitLines.{unit_line, units_text}
 use Rattle.query_text.specs.Externals.{external_value}
 use Rattle.query_text.specs.Vars.{var_line}
 use Rattle.query_text.specs.ScopeText.{scope_text}

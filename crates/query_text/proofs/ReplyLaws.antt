@@ -11,7 +11,7 @@ use Rattle.scope_lines.specs.Lines.{line_at, addresses}
 use Rattle.query_text.specs.declared.query.Query.{Query}
 use Rattle.query_text.specs.declared.query.Query.TheVariants as queries
 use Rattle.query_text.specs.Externals.{external_value}
-use Rattle.query_text.specs.Units.{units_text, files_text}
+use Rattle.query_text.specs.UnitLines.{units_text, files_text}
 use Rattle.query_text.specs.Listed.{IsListingText, listing_text}
 use Rattle.query_text.specs.ScopeText.{scope_text}
 use Rattle.query_text.specs.LineText.{line_text, addresses_text}

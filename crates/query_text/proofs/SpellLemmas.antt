@@ -11,8 +11,8 @@ use Rattle.query_text.specs.declared.want.Keyword.{Keyword}
 use Rattle.query_text.specs.declared.want.Keyword.TheVariants as keywords
 use Rattle.query_text.specs.declared.want.Want.{Want}
 use Rattle.query_text.specs.declared.want.Want.TheVariants as wants
-use Rattle.query_text.specs.Places.{holds, is_text, wrong_from, wrong_place}
-use Rattle.query_text.specs.Words.{is_wanted, keyword_text, spelled_number, number_of, line_of, spelled_address, address_of}
+use Rattle.query_text.specs.WordPlaces.{holds, is_text, wrong_from, wrong_place}
+use Rattle.query_text.specs.QueryWords.{is_wanted, keyword_text, spelled_number, number_of, line_of, spelled_address, address_of}
 use Rattle.query_text.specs.Queries.{places_of, query_of, form_from, go_on, form_of, asked, asked_by, all_keywords, Spell, Reads}
 
 -- ---- a word that is wanted

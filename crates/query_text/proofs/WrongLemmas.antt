@@ -2,7 +2,7 @@
 use Rattle.std.proofs.Common.{◌≡◌, ◌≤◌, ◌<◌, ℕ, zero, suc, ◌+◌, Bool, true, false, cond, List, [], ◌∷◌, ◌++◌, length, take, drop, map, max, Option, Some, None, refl, sym, ap, ◌∙◌, subst, arith, ◌⊎◌, inl, inr, ⊎_elim}
 use Rattle.std.specs.Prelude.{Result, Ok, Err, codes}
 use Rattle.std.specs.Str.{is_utf8}
-use Rattle.std.proofs.lemmas.Bool.{cases_Bool, cases_lt}
+use Rattle.std.proofs.lemmas.Bool.{cases_lt}
 use Rattle.std.proofs.lemmas.Option.{same_Some}
 use Rattle.query_text.specs.declared.query.Query.{Query}
 use Rattle.query_text.specs.declared.query.Query.TheVariants as queries
@@ -10,9 +10,9 @@ use Rattle.query_text.specs.declared.want.Keyword.{Keyword}
 use Rattle.query_text.specs.declared.want.Keyword.TheVariants as keywords
 use Rattle.query_text.specs.declared.want.Want.{Want}
 use Rattle.query_text.specs.declared.want.Want.TheVariants as wants
-use Rattle.query_text.specs.Places.{holds, wrong_from, wrong_place}
-use Rattle.query_text.specs.Words.{is_wanted, keyword_text}
-use Rattle.query_text.specs.Queries.{places_of, query_of, form_from, form_of, go_on, asked, asked_by, all_keywords, Spell, Begin, IsWrong}
+use Rattle.query_text.specs.WordPlaces.{holds, wrong_from, wrong_place}
+use Rattle.query_text.specs.QueryWords.{is_wanted, keyword_text}
+use Rattle.query_text.specs.Queries.{places_of, query_of, form_from, form_of, go_on, asked, asked_by, all_keywords, Begin, IsWrong}
 use Rattle.query_text.proofs.ReadLemmas.{spell-asked}
 use Rattle.query_text.proofs.SpellLemmas.{spell, right}
 use Rattle.query_text.proofs.TextLemmas.{ascii_text}

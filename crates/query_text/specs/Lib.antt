@@ -1,7 +1,7 @@
-pub mod Places
-pub mod Words
+pub mod WordPlaces
+pub mod QueryWords
 pub mod Queries
-pub mod Units
+pub mod UnitLines
 pub mod Listed
 pub mod Externals
 pub mod Vars

@@ -11,8 +11,8 @@ use Rattle.query_text.specs.declared.want.Keyword.{Keyword}
 use Rattle.query_text.specs.declared.want.Keyword.TheVariants as keywords
 use Rattle.query_text.specs.declared.want.Want.{Want}
 use Rattle.query_text.specs.declared.want.Want.TheVariants as wants
-use Rattle.query_text.specs.Places.{is_text, wrong_place}
-use Rattle.query_text.specs.Words.{is_wanted, word_at, number_of, line_of, address_of, spelled_address}
+use Rattle.query_text.specs.WordPlaces.{is_text, wrong_place}
+use Rattle.query_text.specs.QueryWords.{is_wanted, word_at, number_of, line_of, address_of, spelled_address}
 
 -- ---- the forms
 

@@ -1,25 +1,10 @@
-ghost use Rattle.std.specs.Prelude.{◌≡◌, ◌<◌, ◌≤◌, length, IfSome};
-ghost use Rattle.query_text.specs.Words as spec;
+ghost use Rattle.std.specs.Prelude.{◌≡◌, ◌<◌, ◌≤◌, length};
+ghost use Rattle.query_text.specs.QueryWords as spec;
+
+use st_base::digit_value;
 
 /// The most digits of an address.
 pub const MOST_DIGITS: usize = 8;
-
-// The value of a hexadecimal digit of either case.
-fn digit_value(byte: u8) -> Option<u32>
-    ensures value { result ≡ spec.digit_value byte }
-    ensures low { IfSome result (λ value. value < 16) }
-{
-    if b'0' <= byte && byte <= b'9' {
-        return Some((byte - b'0') as u32);
-    }
-    if b'a' <= byte && byte <= b'f' {
-        return Some((byte - b'a' + 10) as u32);
-    }
-    if b'A' <= byte && byte <= b'F' {
-        return Some((byte - b'A' + 10) as u32);
-    }
-    None
-}
 
 // The number that hexadecimal digits spell.
 fn number_of(digits: &[u8]) -> Option<u32>

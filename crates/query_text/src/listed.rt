@@ -1,17 +1,15 @@
 //! The text of a listing: the number of its keys, and a line for each.
 
-ghost use Rattle.std.specs.Prelude.{◌≡◌, ◌++◌, List, IfOk, OnOk};
+ghost use Rattle.std.specs.Prelude.{◌≡◌, ◌++◌, IfOk, OnOk};
 ghost use Rattle.std.specs.Option.{option_copied};
-ghost use Rattle.stab_symbols.specs.declared.tree.Key.{Key as KeyValue};
-ghost use Rattle.stab_symbols.specs.Surface.{ArePlaces};
 ghost use Rattle.query_text.specs.Listed as spec;
 
+use indexmap::IndexSet;
 use st_base::{Memory, Text, put_number, show};
 use stab_grammar::{Key, Symbol, TypeTree, letters_of, print_placed_by};
 use stab_units::Unit;
 use std::alloc::Global;
-use std::collections::BTreeMap;
-use type_graph::{TypeIndex, listed, places};
+use type_graph::{KeySet, TypeIndex, listed};
 
 /// `CLASS NAME` of a key, by the symbol that names it.
 fn put_name(name: Option<&Symbol>, out: &mut Text) -> Result<(), Memory>
@@ -39,11 +37,11 @@ fn put_label(place: usize, name: Option<&Symbol>, out: &mut Text) -> Result<(), 
 /// `BODY` of a key, by its definition, with the places of the keys of a listing.
 fn put_body(
     alloc: Global,
-    places: &BTreeMap<Key, usize>,
+    places: &IndexSet<Key>,
     body: Option<&TypeTree>,
     out: &mut Text,
 ) -> Result<(), Memory>
-    ensures { (keys : List KeyValue) → ArePlaces keys places.now → OnOk result (out.new ≡ out.old ++ spec.body_text keys (option_copied body.entry)) }
+    ensures { OnOk result (out.new ≡ out.old ++ spec.body_text places.now.keys (option_copied body.entry)) }
 {
     match body {
         None => out.extend(b"undefined"),
@@ -59,13 +57,13 @@ fn put_body(
 #[tactic(auto, unfolding(crate::specs::Listed::node_line))]
 fn put_node(
     alloc: Global,
-    places: &BTreeMap<Key, usize>,
+    places: &IndexSet<Key>,
     place: usize,
     name: Option<&Symbol>,
     body: Option<&TypeTree>,
     out: &mut Text,
 ) -> Result<(), Memory>
-    ensures { (keys : List KeyValue) → ArePlaces keys places.now → OnOk result (out.new ≡ out.old ++ spec.node_line keys place (option_copied name.entry) (option_copied body.entry)) }
+    ensures { OnOk result (out.new ≡ out.old ++ spec.node_line places.now.keys place (option_copied name.entry) (option_copied body.entry)) }
 {
     put_label(place, name, out)?;
     out.push(b' ')?;
@@ -76,23 +74,22 @@ fn put_node(
 fn put_nodes(
     alloc: Global,
     index: &TypeIndex<'_>,
-    keys: &[Key],
+    keys: &KeySet,
     out: &mut Text,
 ) -> Result<(), Memory>
     ensures { OnOk result (out.new ≡ out.old ++ spec.node_lines index.now keys.now 0 keys.now) }
 {
-    let places = places(alloc, keys)?;
-    for (place, key) in keys.iter().enumerate() {
+    for (place, key) in keys.items().iter().enumerate() {
         let name = index.name(*key);
         let body = index.definition(*key);
-        put_node(alloc, &places, place, name, body, out)?;
+        put_node(alloc, keys.places(), place, name, body, out)?;
     }
     Ok(())
 }
 
 // The text of a listing: the number of its keys, and for each key a line.
 #[tactic(auto, unfolding(crate::specs::Listed::listing_text))]
-fn text_of_keys(alloc: Global, index: &TypeIndex<'_>, keys: &[Key]) -> Result<Text, Memory>
+fn text_of_keys(alloc: Global, index: &TypeIndex<'_>, keys: &KeySet) -> Result<Text, Memory>
     ensures { IfOk result (λ text. text ≡ spec.listing_text index.now keys.now) }
 {
     let mut text = Text::new(alloc);
@@ -110,6 +107,6 @@ pub fn listing_text(alloc: Global, unit: &Unit, key: Key) -> Result<Text, Memory
     ensures { IfOk result (spec.IsListingText unit.now key) }
 {
     let index = TypeIndex::new(alloc, unit)?;
-    let listing = listed(alloc, &index, key)?;
-    text_of_keys(alloc, &index, listing.keys.items())
+    let keys = listed(alloc, &index, key)?;
+    text_of_keys(alloc, &index, &keys)
 }

@@ -1,7 +1,7 @@
 //! Words at places: where words are not what the places of a line want, whatever that is.
 
 ghost use Rattle.std.specs.Prelude.{◌≡◌, ◌≤◌, ℕ, Bool, List, length, IfSome};
-ghost use Rattle.query_text.specs.Places as spec;
+ghost use Rattle.query_text.specs.WordPlaces as spec;
 
 use st_base::Text;
 use std::str::from_utf8;

@@ -1,7 +1,7 @@
 //! What words ask: a query, or the place of the wrong word.
 
 ghost use Rattle.std.specs.Prelude.{◌≡◌, ◌≤◌, length, drop, max, IfOk, IfErr};
-ghost use Rattle.query_text.specs.Words as words_spec;
+ghost use Rattle.query_text.specs.QueryWords as words_spec;
 ghost use Rattle.query_text.specs.Queries as spec;
 ghost use Rattle.query_text.specs.declared.query.Query.{Query as AnyQuery};
 

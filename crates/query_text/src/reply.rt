@@ -7,7 +7,7 @@ ghost use Rattle.type_graph.specs.Types.{tag_of, typedef_of};
 ghost use Rattle.scope_lines.specs.Scopes as scope_specs;
 ghost use Rattle.scope_lines.specs.Lines as line_specs;
 ghost use Rattle.query_text.specs.LineText as line_texts;
-ghost use Rattle.query_text.specs.Units as unit_texts;
+ghost use Rattle.query_text.specs.UnitLines as unit_texts;
 
 use crate::line_text::{addresses_text, line_text};
 use crate::listed::listing_text;

@@ -1,14 +1,14 @@
 //! The replies on units and on the files of a unit.
 
 ghost use Rattle.std.specs.Prelude.{◌≡◌, ◌++◌, IfOk, OnOk};
-ghost use Rattle.query_text.specs.Units as spec;
+ghost use Rattle.query_text.specs.UnitLines as spec;
 
 use st_base::{Memory, Text, put_hex8, put_number, show};
 use stab_units::{HeaderFile, Unit};
 use std::alloc::Global;
 
 /// `U START END NAME` of the unit with this number.
-#[tactic(auto, unfolding(crate::specs::Units::unit_line))]
+#[tactic(auto, unfolding(crate::specs::UnitLines::unit_line))]
 fn put_unit(number: usize, unit: &Unit, out: &mut Text) -> Result<(), Memory>
     ensures { OnOk result (out.new ≡ out.old ++ spec.unit_line number unit.now) }
 {
@@ -34,7 +34,7 @@ pub fn units_text(alloc: Global, units: &[Unit]) -> Result<Text, Memory>
 }
 
 /// `F NAME` of the file with this number.
-#[tactic(auto, unfolding(crate::specs::Units::file_line))]
+#[tactic(auto, unfolding(crate::specs::UnitLines::file_line))]
 fn put_file(number: usize, file: &HeaderFile, out: &mut Text) -> Result<(), Memory>
     ensures { OnOk result (out.new ≡ out.old ++ spec.file_line number file.now) }
 {

@@ -1,7 +1,7 @@
 //! What the places of a query's words want, and the numbers that they spell.
 
 ghost use Rattle.std.specs.Prelude.{◌≡◌};
-ghost use Rattle.query_text.specs.Words as spec;
+ghost use Rattle.query_text.specs.QueryWords as spec;
 
 use crate::address::address_of;
 use crate::places::Wanted;
@@ -57,7 +57,7 @@ fn keyword_text(keyword: Keyword) -> &'static [u8]
 }
 
 impl Wanted for Want {
-    ghost use Rattle.query_text.specs.Words.{is_wanted};
+    ghost use Rattle.query_text.specs.QueryWords.{is_wanted};
 
     ghost wants = { is_wanted };
 

@@ -11,7 +11,7 @@ use Rattle.readers.specs.declared.stop.Refusal.{Refusal}
 use Rattle.readers.specs.declared.stop.Refusal.TheVariants as refusal
 use Rattle.readers.specs.Spelling.{Form, Spells}
 use Rattle.readers.specs.Readers.{Reader, Fails, whole_of}
-use Rattle.readers.specs.Faults.{HasFault, IsFirstFault, placed, told, LeavesWithin}
+use Rattle.readers.specs.TextFaults.{HasFault, IsFirstFault, placed, told, LeavesWithin}
 use Rattle.readers.proofs.Laws.{Laws}
 use Rattle.readers.proofs.First as firsts
 

@@ -9,7 +9,7 @@ use Rattle.readers.specs.declared.stop.Stop.TheVariants as stop
 use Rattle.readers.specs.Spelling.{Form, Begun, Within, Spells, ended, all_of, none, deeper, inner, tail}
 use Rattle.readers.specs.Readers.{byte_at, closed, many, whole_of}
 use Rattle.readers.specs.Words.{number_at, digits_on, name_at, not_in_name, run_at, run_on, is_digit, is_digits, is_name}
-use Rattle.readers.specs.Faults.{TooDeep, BadByte, TooShort, HasFault, IsFirstFault, place_of, placed, told, LeavesWithin}
+use Rattle.readers.specs.TextFaults.{TooDeep, BadByte, TooShort, HasFault, IsFirstFault, place_of, placed, told, LeavesWithin}
 
 -- ---- readers
 

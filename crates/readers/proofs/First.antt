@@ -8,7 +8,7 @@ use Rattle.readers.specs.declared.fault.TextFault.{TextFault}
 use Rattle.readers.specs.declared.fault.TextFault.TheVariants as fault
 use Rattle.readers.specs.Spelling.{Form, Begun, Within, ended}
 use Rattle.readers.specs.Readers.{Outcome, Reader, whole_of}
-use Rattle.readers.specs.Faults.{TooDeep, HasFault, place_of, IsFirstFault, placed}
+use Rattle.readers.specs.TextFaults.{TooDeep, HasFault, place_of, IsFirstFault, placed}
 use Rattle.readers.proofs.Cases.{which, which_option, bind_ok, bind_err, ok_parts}
 use Rattle.readers.proofs.Cuts.{cut, cut_front, within_cut}
 use Rattle.readers.proofs.Laws.{Breaks, Laws}

@@ -1,4 +1,4 @@
 pub mod Spelling
 pub mod Readers
 pub mod Words
-pub mod Faults
+pub mod TextFaults

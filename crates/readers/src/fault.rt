@@ -1,6 +1,6 @@
 ghost use Rattle.std.specs.Prelude.{◌≡◌};
-ghost use Rattle.readers.specs.Faults.{LeavesWithin};
-ghost use Rattle.readers.specs.Faults as faults;
+ghost use Rattle.readers.specs.TextFaults.{LeavesWithin};
+ghost use Rattle.readers.specs.TextFaults as faults;
 
 use crate::stop::{Refusal, Stop};
 

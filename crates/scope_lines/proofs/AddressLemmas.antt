@@ -6,7 +6,7 @@ use Rattle.std.specs.Str.{bytes_eq}
 use Rattle.std.proofs.lemmas.List.{drop_more, take_more}
 use Rattle.stab_units.specs.declared.unit.Item.{Item}
 use Rattle.scope_lines.specs.declared.scope.AddressOf.{AddressOf}
-use Rattle.scope_lines.specs.Places.{each, last_place}
+use Rattle.scope_lines.specs.ListPlaces.{each, last_place}
 use Rattle.scope_lines.specs.Lines.{is_source, text_of, file_name, address_at, address_if, is_line_of}
 use Rattle.scope_lines.specs.Walks.{next_here}
 use Rattle.scope_lines.proofs.PlaceLemmas.{last_place-push, IsBelow, last_place_below}

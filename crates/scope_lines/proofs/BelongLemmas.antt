@@ -7,7 +7,7 @@ use Rattle.std.proofs.lemmas.Option.{same_Some, none-some, slice_get_within}
 use Rattle.std.proofs.lemmas.List.{length-take-le}
 use Rattle.scope_lines.specs.declared.role.Role.{Role}
 use Rattle.scope_lines.specs.declared.role.Role.TheVariants.{Function, Opens, Closes, Parameter, Local, Static, Other}
-use Rattle.scope_lines.specs.Places.{last_place, IsLast, NonePass}
+use Rattle.scope_lines.specs.ListPlaces.{last_place, IsLast, NonePass}
 use Rattle.scope_lines.specs.declared.scope.Block.{Block}
 use Rattle.scope_lines.specs.Blocks.{waits_at, waiting, is_local, decides, end_value, closing_value, block_at, block_of, is_in_block, IsFirstEven, EndsWith, NeverEnds, IsWaiting}
 use Rattle.scope_lines.specs.Scopes.{own_at, own_of, blocks_at, blocks_of, static_at, statics_of, is_static, is_own, is_in, opens_next, is_function, same_place, OpensNext, IsOwn, IsBlock}

@@ -4,7 +4,7 @@ use Rattle.std.specs.Prelude.{◌&&◌, is_none}
 use Rattle.std.specs.List.{find}
 use Rattle.scope_lines.specs.declared.role.Role.{Role}
 use Rattle.scope_lines.specs.declared.role.Role.TheVariants.{Function, Opens, Closes, Parameter, Local, Static, Other}
-use Rattle.scope_lines.specs.Places.{each}
+use Rattle.scope_lines.specs.ListPlaces.{each}
 use Rattle.scope_lines.specs.Blocks.{waiting, waits_at, decides, is_local}
 use Rattle.scope_lines.specs.Walks.{next_waiting}
 

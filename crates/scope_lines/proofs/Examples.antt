@@ -12,7 +12,7 @@ use Rattle.scope_lines.specs.declared.role.Role.TheVariants.{Function, Opens, Cl
 use Rattle.scope_lines.specs.Blocks.{end_place, end_value}
 use Rattle.scope_lines.specs.Lines.{line_at, addresses}
 use Rattle.scope_lines.specs.Nearest.{nearest}
-use Rattle.scope_lines.specs.Places.{AreInOrder}
+use Rattle.scope_lines.specs.ListPlaces.{AreInOrder}
 use Rattle.scope_lines.specs.Roles.{symbol_role}
 use Rattle.scope_lines.specs.Scopes.{own_of, blocks_of, statics_of, scope_at}
 

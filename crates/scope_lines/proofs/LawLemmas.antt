@@ -3,7 +3,7 @@ use Rattle.std.proofs.Common.{◌≡◌, ℕ, zero, suc, ◌<◌, ◌≤◌, ⊎
 use Rattle.std.specs.Prelude.{slice_get, option_and_then, MatchOption, nat_le}
 use Rattle.std.proofs.lemmas.Bool.{cases_Bool, cases_lt, leb-true, leb-false, eqb-true, eqb-false, eq-eqb}
 use Rattle.std.proofs.lemmas.Option.{same_Some, none-some}
-use Rattle.scope_lines.specs.Places.{last_place, place_or, IsLast, NonePass}
+use Rattle.scope_lines.specs.ListPlaces.{last_place, place_or, IsLast, NonePass}
 use Rattle.scope_lines.specs.Nearest.{nearest, greatest, or_max, is_value, IsNearest, AllAbove}
 
 -- ---- the last that passes

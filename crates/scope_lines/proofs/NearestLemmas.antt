@@ -5,7 +5,7 @@ use Rattle.std.proofs.lemmas.Bool.{cases_lt, lt-leb, le-leb, lt-ltb, le-ltb, ne_
 use Rattle.std.proofs.lemmas.List.{length-map, length-take-le}
 use Rattle.stab_units.specs.declared.unit.Item.{Item}
 use Rattle.scope_lines.specs.declared.nearest.Sought.{Sought}
-use Rattle.scope_lines.specs.Places.{last_place}
+use Rattle.scope_lines.specs.ListPlaces.{last_place}
 use Rattle.scope_lines.specs.Nearest.{greatest, or_max, is_value, value_of}
 use Rattle.scope_lines.specs.Walks.{better, better_than}
 use Rattle.scope_lines.proofs.PlaceLemmas.{last_place-push, map_take_more, IsBelow, last_place_below}

@@ -7,7 +7,7 @@ use Rattle.std.proofs.lemmas.Option.{same_Some, slice_get_within}
 use Rattle.scope_lines.specs.declared.role.Role.{Role}
 use Rattle.scope_lines.specs.declared.role.Role.TheVariants.{Function, Opens, Closes, Parameter, Local, Static, Other}
 use Rattle.scope_lines.specs.declared.scope.Block.{Block}
-use Rattle.scope_lines.specs.Places.{each, Ascends, AreInOrder}
+use Rattle.scope_lines.specs.ListPlaces.{each, Ascends, AreInOrder}
 use Rattle.scope_lines.specs.Blocks.{waiting, is_local, decides, end_value, block_at, block_of, is_in_block}
 use Rattle.scope_lines.specs.Scopes.{own_of, statics_of, blocks_at, blocks_of, is_own, opens_next, is_in, is_static, IsBlock}
 use Rattle.scope_lines.proofs.BelongLemmas.{given_is_block, block_is_given}

@@ -4,7 +4,7 @@ use Rattle.std.specs.Prelude.{⊤}
 use Rattle.std.specs.List.{find, range_with_len}
 use Rattle.std.proofs.lemmas.Bool.{cases_lt}
 use Rattle.std.proofs.lemmas.List.{take_more, drop_more, map-append, length-take-le}
-use Rattle.scope_lines.specs.Places.{last_place, place_or}
+use Rattle.scope_lines.specs.ListPlaces.{last_place, place_or}
 
 -- ---- a list read one item further
 

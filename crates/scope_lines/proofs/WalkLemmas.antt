@@ -10,7 +10,7 @@ use Rattle.scope_lines.specs.declared.scope.Block.{Block}
 use Rattle.scope_lines.specs.declared.walk.Walk.{Walk}
 use Rattle.scope_lines.specs.declared.walk.Asked.{Asked}
 use Rattle.scope_lines.specs.Roles.{role_of, roles}
-use Rattle.scope_lines.specs.Places.{each, last_place}
+use Rattle.scope_lines.specs.ListPlaces.{each, last_place}
 use Rattle.scope_lines.specs.Blocks.{waiting}
 use Rattle.scope_lines.specs.Scopes.{own_at, own_of, blocks_at, blocks_of, static_at, statics_of, is_function, is_own, opens_next, same_place}
 use Rattle.scope_lines.specs.Behind.{behinds, behind_of}

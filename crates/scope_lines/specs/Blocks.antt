@@ -5,7 +5,7 @@ use Rattle.std.specs.List.{find, range_with_len}
 use Rattle.scope_lines.specs.declared.role.Role.{Role}
 use Rattle.scope_lines.specs.declared.role.Role.TheVariants.{Function, Opens, Closes, Local}
 use Rattle.scope_lines.specs.declared.scope.Block.{Block}
-use Rattle.scope_lines.specs.Places.{each}
+use Rattle.scope_lines.specs.ListPlaces.{each}
 
 -- ---- the N_RBRAC of an N_LBRAC
 

@@ -12,7 +12,7 @@ use Rattle.type_graph.specs.declared.world.World.{World}
 use Rattle.scope_lines.specs.declared.nearest.Sought.TheVariants as sought
 use Rattle.scope_lines.specs.declared.scope.LineAt.{LineAt}
 use Rattle.scope_lines.specs.declared.scope.AddressOf.{AddressOf}
-use Rattle.scope_lines.specs.Places.{each, last_place}
+use Rattle.scope_lines.specs.ListPlaces.{each, last_place}
 use Rattle.scope_lines.specs.Nearest.{nearest_item}
 use Rattle.scope_lines.specs.Scopes.{unit_at, IsUnitOf}
 

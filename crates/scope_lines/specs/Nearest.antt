@@ -7,7 +7,7 @@ use Rattle.scope_lines.specs.declared.role.Role.TheVariants.{Function}
 use Rattle.scope_lines.specs.declared.nearest.Sought.{Sought}
 use Rattle.scope_lines.specs.declared.nearest.Sought.TheVariants as sought
 use Rattle.scope_lines.specs.Roles.{role_of}
-use Rattle.scope_lines.specs.Places.{last_place}
+use Rattle.scope_lines.specs.ListPlaces.{last_place}
 
 -- the value of an item that is a function
 abbrev pub function_value : Role → Option ℕ

@@ -11,7 +11,7 @@ use Rattle.scope_lines.specs.declared.scope.Block.{Block}
 use Rattle.scope_lines.specs.declared.scope.Scope.{Scope}
 use Rattle.scope_lines.specs.Roles.{roles}
 use Rattle.scope_lines.specs.Blocks.{is_begin, decides, end_value, waiting, block_at, block_of, is_in_block, EndsWith}
-use Rattle.scope_lines.specs.Places.{each, last_place, IsLast}
+use Rattle.scope_lines.specs.ListPlaces.{each, last_place, IsLast}
 use Rattle.scope_lines.specs.Nearest.{nearest_item}
 
 -- ---- the unit of an address

@@ -3,7 +3,7 @@
 ghost use Rattle.std.specs.Prelude.{◌≡◌, ℕ, List, Option, ◌∷◌, ◌↔◌, Some, None, [], Contains, MatchOption, slice_get};
 ghost use Rattle.scope_lines.specs.Blocks.{end_value, waiting, EndsWith, NeverEnds, IsWaiting};
 ghost use Rattle.scope_lines.specs.Nearest.{nearest, IsNearest, AllAbove};
-ghost use Rattle.scope_lines.specs.Places.{last_place, AreInOrder, Ascends, IsLast, NonePass};
+ghost use Rattle.scope_lines.specs.ListPlaces.{last_place, AreInOrder, Ascends, IsLast, NonePass};
 ghost use Rattle.scope_lines.specs.Lines.{is_source, addresses, IsAddress};
 ghost use Rattle.scope_lines.specs.Scopes.{own_of, blocks_of, statics_of, unit_at, IsOwn, IsBlock, IsUnitOf, NoUnit};
 ghost use Rattle.scope_lines.specs.declared.role.Role.{Role as SomeRole};

@@ -1,6 +1,6 @@
 ghost use Rattle.std.specs.Prelude.{◌≡◌, ◌<◌, ◌^◌, ◌↔◌, if◌then◌else◌, Some, length, IsNone};
 ghost use Rattle.scope_lines.specs.Lines as spec;
-ghost use Rattle.scope_lines.specs.Places.{last_place};
+ghost use Rattle.scope_lines.specs.ListPlaces.{last_place};
 
 use crate::nearest::{Sought, nearest};
 use crate::scope::LineAt;

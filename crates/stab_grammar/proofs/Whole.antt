@@ -9,7 +9,7 @@ use Rattle.readers.specs.declared.fault.Unread.{Unread}
 use Rattle.readers.specs.declared.fault.Unread.TheVariants as unread
 use Rattle.readers.specs.Spelling.{Spells}
 use Rattle.readers.specs.Readers.{Fails}
-use Rattle.readers.specs.Faults.{place_of, placed, told, LeavesWithin}
+use Rattle.readers.specs.TextFaults.{place_of, placed, told, LeavesWithin}
 use Rattle.readers.proofs.First as firsts
 use Rattle.readers.proofs.Answers as answers
 use Rattle.stab_symbols.specs.declared.limits.TheConstants.{GREATEST_DEPTH}

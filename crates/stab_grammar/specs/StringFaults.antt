@@ -8,7 +8,7 @@ use Rattle.st_base.specs.Faults.{fault_at}
 use Rattle.readers.specs.declared.fault.TextFault.{TextFault}
 use Rattle.readers.specs.declared.fault.TextFault.TheVariants.{Byte, End, Deep}
 use Rattle.readers.specs.Spelling.{Form, Within}
-use Rattle.readers.specs.Faults.{HasFault, IsFirstFault}
+use Rattle.readers.specs.TextFaults.{HasFault, IsFirstFault}
 use Rattle.stab_symbols.specs.declared.limits.TheConstants.{GREATEST_DEPTH}
 use Rattle.stab_symbols.specs.declared.tree.Symbol.{Symbol}
 use Rattle.stab_symbols.specs.SymbolSpelling.{print_symbol}

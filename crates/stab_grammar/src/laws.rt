@@ -3,7 +3,7 @@
 ghost use Rattle.std.specs.Prelude.{◌≡◌, ◌⊎◌, ◌↔◌, List, ℕ, map};
 ghost use Rattle.st_base.specs.declared.fault.Fault.{Fault};
 ghost use Rattle.readers.specs.declared.fault.TextFault.{TextFault};
-ghost use Rattle.readers.specs.Faults.{place_of};
+ghost use Rattle.readers.specs.TextFaults.{place_of};
 ghost use Rattle.stab_symbols.specs.declared.tree.Symbol.{Symbol};
 ghost use Rattle.stab_symbols.specs.Shape.{ShapedSymbol};
 ghost use Rattle.stab_symbols.specs.Files.{files_of, shape_of, with_files, file_0, DifferInFiles};

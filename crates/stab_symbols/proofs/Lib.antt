@@ -4,5 +4,4 @@ pub mod WalkLemmas
 pub mod NumberLemmas
 pub mod Levels
 mod OpeningLemmas
-mod PlacedLemmas
 pub mod Examples

@@ -1,9 +1,6 @@
 -- The keys of the numbers on the surface of a type: of those met from left to right without going into the definition of a
 -- number; and the type as it is shown in a listing, where each of them is `#` and the place of its key. Both are this project's own.
 use Rattle.std.specs.Prelude.{◌≡◌, ℕ, Bool, true, ◌&&◌, ◌==◌, List, ◌∷◌, decimal, unwrap_or, position, map}
-use Rattle.std.specs.declared.cmp.Ordering.{Ordering}
-use Rattle.std.specs.Ordering.{ordering_then, nat_cmp}
-use Rattle.std.specs.BTreeMap.{BTreeMap, get}
 use Rattle.stab_symbols.specs.declared.tree.Num.{Num}
 use Rattle.stab_symbols.specs.declared.tree.Key.{Key}
 use Rattle.stab_symbols.specs.declared.tree.TypeTree.{TypeTree}
@@ -31,17 +28,3 @@ place_text keys n = 35 ∷ decimal (unwrap_or (position (same_key (key_of n)) ke
 -- it is spelled
 abbrev pub placed : List Key → TypeTree → List ℕ
 placed keys = type_text (place_text keys) true
-
--- ---- places in a map
-
--- the order of keys: by file, then by number
-abbrev pub key_order : Key → Key → Ordering
-key_order k l = ordering_then (nat_cmp k.file l.file) (nat_cmp k.number l.number)
-
--- the map has the place of each key of the list, and no others
-abbrev pub ArePlaces : List Key → BTreeMap Key ℕ → Type 0
-ArePlaces keys places = (key : Key) → get key_order places key ≡ position (same_key key) keys
-
--- `#` and the place that the map has for the key
-abbrev pub mapped_text : BTreeMap Key ℕ → Num → List ℕ
-mapped_text places n = 35 ∷ decimal (unwrap_or (get key_order places (key_of n)) 0)

@@ -1,15 +1,14 @@
-ghost use Rattle.std.specs.Prelude.{◌≡◌, ◌++◌, ◌∷◌, List, true, decimal, OnOk, OnErr, All, Contains, position, unwrap_or};
+ghost use Rattle.std.specs.Prelude.{◌≡◌, ◌++◌, ◌∷◌, decimal, OnOk, OnErr, All, Contains, position, unwrap_or};
 ghost use Rattle.std.specs.List.{IsDistinct};
-ghost use Rattle.stab_symbols.specs.declared.tree.Key.{Key as KeyValue};
-ghost use Rattle.stab_symbols.specs.Printing.{Grows, type_text};
-ghost use Rattle.stab_symbols.specs.Surface.{same_key, surface_of, placed, ArePlaces, mapped_text};
+ghost use Rattle.stab_symbols.specs.Printing.{Grows};
+ghost use Rattle.stab_symbols.specs.Surface.{same_key, surface_of, placed};
 
 use crate::keys::key_of;
 use crate::printing::{NumberWriter, append_type, put_byte, put_bytes};
 use crate::tree::{Key, Num, TypeTree};
+use indexmap::IndexSet;
 use itoa::Buffer;
 use st_base::{List, Memory, Text};
-use std::collections::BTreeMap;
 
 // Appends `#` and a place.
 fn put_place(place: usize, out: &mut Text) -> Result<(), Memory>
@@ -71,24 +70,24 @@ pub fn print_placed(tree: &TypeTree, keys: &List<Key>, out: &mut Text) -> Result
     append_type(tree, &Listed { keys }, out)
 }
 
-// ---- places in a map
+// ---- places in a set
 
-// Numbers as the places that a map has for their keys.
+// Numbers as the places that their keys have in a set.
 #[derive(Drop)]
-struct Mapped<'a> {
-    places: &'a BTreeMap<Key, usize>,
+struct Placed<'a> {
+    keys: &'a IndexSet<Key>,
 }
 
-impl<'a> NumberWriter for Mapped<'a> {
+impl<'a> NumberWriter for Placed<'a> {
     ghost use Rattle.std.specs.Prelude.{true};
-    ghost use Rattle.stab_symbols.specs.Surface.{mapped_text};
+    ghost use Rattle.stab_symbols.specs.Surface.{place_text};
 
-    ghost number = { λ mapped. mapped_text mapped.places.now };
+    ghost number = { λ set. place_text set.keys.now.keys };
 
     ghost hides = { λ _. true };
 
     fn put(&self, num: &Num, out: &mut Text) -> Result<(), Memory> {
-        put_place(self.places.get(&key_of(num)).copied().unwrap_or(0), out)
+        put_place(self.keys.get_index_of(&key_of(num)).unwrap_or(0), out)
     }
 
     fn hides_definitions(&self) -> bool {
@@ -96,28 +95,11 @@ impl<'a> NumberWriter for Mapped<'a> {
     }
 }
 
-// Appends the text of a type, with the places that the map has.
-fn append_mapped(
-    tree: &TypeTree,
-    places: &BTreeMap<Key, usize>,
-    out: &mut Text,
-) -> Result<(), Memory>
-    ensures ok { OnOk result (out.new ≡ out.old ++ type_text (mapped_text places.now) true tree.now) }
+/// Appends the text of a type as `print_placed` does, in a listing of the keys of a set: each number costs one look-up, however long
+/// the listing is, and a key that is not in the set has the place 0. Out of memory, `out` stays as it was.
+pub fn print_placed_by(tree: &TypeTree, keys: &IndexSet<Key>, out: &mut Text) -> Result<(), Memory>
+    ensures ok { OnOk result (out.new ≡ out.old ++ placed keys.now.keys tree.now) }
     ensures err { OnErr result (out.new ≡ out.old) }
 {
-    append_type(tree, &Mapped { places }, out)
-}
-
-/// Appends the text of a type as `print_placed` does, with the places of the keys from a map: it is the text in a listing of any keys
-/// of which the map has the places. Each number costs one look-up in the map, however long the listing is. Out of memory, `out`
-/// stays as it was.
-pub fn print_placed_by(
-    tree: &TypeTree,
-    places: &BTreeMap<Key, usize>,
-    out: &mut Text,
-) -> Result<(), Memory>
-    ensures ok { (keys : List KeyValue) → ArePlaces keys places.now → OnOk result (out.new ≡ out.old ++ placed keys tree.now) }
-    ensures err { OnErr result (out.new ≡ out.old) }
-{
-    append_mapped(tree, places, out)
+    append_type(tree, &Placed { keys }, out)
 }

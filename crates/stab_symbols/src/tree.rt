@@ -2,7 +2,7 @@ use st_base::{Boxed as Box, List, Text};
 
 /// A type number as a name within one unit: the file that gave it, 0 for the main source, and its number
 /// there.
-#[derive(Clone, Copy, Debug, Drop, PartialEq, Eq, PartialOrd, Ord)]
+#[derive(Clone, Copy, Debug, Drop, PartialEq, Eq, PartialOrd, Ord, Hash)]
 pub struct Key {
     pub file: u32,
     pub number: u32,

@@ -171,7 +171,7 @@ module _ (h : Named → Named) (like : (e : Named) → IsAlike e (h e)) where
     | inr none ↦ rw (other_kind (h e).kind N_SO none.second refl, other_kind e.kind N_SO none.first refl) (in_unit-like back)
   ]
 
-  -- behind as many headers
+  -- after as many headers
   pub headers_in-like : (back : List Named) → headers_in (map h back) ≡ headers_in back
   headers_in-like [] = refl
   headers_in-like (e ∷ back) = elim (like e) [
@@ -179,14 +179,14 @@ module _ (h : Named → Named) (like : (e : Named) → IsAlike e (h e)) where
     | inr none ↦ rw (other_kind (h e).kind N_SO none.second refl, other_kind e.kind N_SO none.first refl, no_header (h e).kind none.second, no_header e.kind none.first) (headers_in-like back)
   ]
 
-  -- what is told of an entry by itself
+  -- what is reported for an entry by itself
   unit_tell-like : (marks : Marks) (back : List Named) (e : Named) (es : List Named) → unit_tell marks (map h back) (h e) (map h es) ≡ unit_tell marks back e es
   unit_tell-like marks back e es = elim (like e) [
     | inl one ↦ rw (in_unit-like back, headers_in-like back, sym one.kind, sym one.name) refl
     | inr none ↦ rw (none.first, none.second) refl
   ]
 
-  -- every fault of an outline is told at the same entry
+  -- every fault of an outline is reported at the same entry
   outline_tell-like : (marks : Marks) (back : List Named) (e : Named) (es : List Named) → outline_tell marks (map h back) (h e) (map h es) ≡ outline_tell marks back e es
   outline_tell-like marks back e es = same_smallest _ _ _ _ _ _ _ _
       (unit_tell-like marks back e es)

@@ -1,4 +1,4 @@
--- No fault of an outline is told of a changed list where none is of the list, and no bracket of a block goes.
+-- No fault of an outline is reported for a changed list where none is for the list, and no bracket of a block goes.
 use Rattle.std.proofs.Common.{◌≡◌, ℕ, zero, suc, ◌+◌, ◌⊎◌, inl, inr, Bool, true, false, cond, Option, Some, None, arith, refl, sym, ap, ◌∙◌, subst, ltb, List, [], ◌∷◌, ◌++◌, length, slice_get, filter}
 use Rattle.std.specs.Prelude.{⊤, ◌==◌, ◌&&◌, not}
 use Rattle.st_base.specs.declared.fault.Fault.{Fault}
@@ -97,7 +97,7 @@ closed_joined e es is = ap (λ link. piece_of e ++ more_text link (joined es)) (
 mark_joined : (f : Named) (es : List Named) → IsMark f.kind → joined (f ∷ es) ≡ []
 mark_joined f es mark = closed_joined f es (no_carries_open f mark.carries) ∙ ap (λ text. text ++ []) (no_carries_piece f mark.carries)
 
--- no fault of a string is told at a mark
+-- no fault of a string is reported at a mark
 mark_runs : (new : List Named) (f : Named) (es : List Named) → IsMark f.kind → run_tell new f es ≡ None
 mark_runs new f es mark = both_none _ _ (ap broken (closed_ends f (next es) (no_carries_open f mark.carries)))
     (ap (long_at (continued new f)) (mark_joined f es mark) ∙ none_long (continued new f))
@@ -116,7 +116,7 @@ blocks_untold : (marks : Marks) (back es : List Named) → Untold (outline_tell 
 blocks_untold marks back [] untold = tt
 blocks_untold marks back (e ∷ es) untold = ((told-quiet marks back e es untold.0).blocks, blocks_untold marks (e ∷ back) es untold.1)
 
--- nothing is told of an image where no sort is
+-- nothing is reported for an image where no sort is
 all_untold : (back es : List Named) → Untold (unit_tell Image) back es → Untold (nest_tell in_headers OPEN_HEADER CLOSED_HEADER) back es
     → Untold (nest_tell in_blocks BRACKETS BRACKETS) back es → Untold run_tell back es → Untold (outline_tell Image) back es
 all_untold back [] units headers blocks runs = tt

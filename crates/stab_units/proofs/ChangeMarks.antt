@@ -45,7 +45,7 @@ pub headers_counted : (p : ℕ) (es : List Named) → length (headers_from p (in
 headers_counted p [] = refl
 headers_counted p (e ∷ es) = counted_by (e.kind == N_SO) p e es refl (headers_counted (p + 1) es)
 
--- a stab of which nothing is told stands in a unit, if it is no N_SO
+-- a stab for which nothing is reported stands in a unit, if it is no N_SO
 stab_within : (stab source named within : Bool) (o : Option ℕ) → stab ≡ true → source ≡ false
     → cond (not stab) None (cond (source && named) None (cond (not within) (Some NO_UNIT) o)) ≡ None → within ≡ true
 stab_within true true named within o is other none = absurd cc
@@ -83,7 +83,7 @@ module _ (marks : Marks) where
   outside_by true back e es named source stops untold = absurd (no_stop (e.kind == N_SO) (is_empty e.name) _ stops named)
   outside_by false back e es named source stops untold = none_ahead (e ∷ back) es untold (ap (λ b. cond b (not (is_empty e.name)) (in_unit back)) source ∙ named)
 
-  -- there are some behind an N_SO only if it begins a unit
+  -- there are some after an N_SO only if it begins a unit
   pub mark_ahead : (mark : SourceMark) (back : List Named) (e : Named) (es : List Named) → (mark ≡ Start → ⊥) → mark_at e (next es) ≡ mark
       → (e.kind == N_SO) ≡ true
       → Untold (outline_tell marks) (e ∷ back) es → headers_ahead es ≡ 0
@@ -100,7 +100,7 @@ next_by : (header : Bool) (place all ahead : ℕ) → place ≡ all + cond heade
 next_by true place all ahead is = omega arith
 next_by false place all ahead is = is
 
--- so it is behind one more entry of a unit
+-- so it is after one more entry of a unit
 pub next_more : (place : ℕ) (back : List Named) (e : Named) (es : List Named) → (e.kind == N_SO) ≡ false → IsNext place back (e ∷ es)
     → IsNext place (e ∷ back) es
 next_more place back e es source is = next_by (is_header e.kind) place (all_headers back) (headers_ahead es)
@@ -146,7 +146,7 @@ no_mark_by false false m n ms is = refl
 module _ (c : Change) where
   -- ---- one entry more
 
-  -- nothing goes right behind an N_SO
+  -- nothing goes right after an N_SO
   next_names : (ts : List Turn) (back new : List Named) (e : Named) → (e.kind == N_SO) ≡ true → Walk c (e ∷ back) (e ∷ new) ts
       → names_source (next (after ts)) ≡ names_source (next (before ts))
   next_names [] back new e source walk = refl

@@ -1,4 +1,4 @@
--- The units of a changed list are those of the list, one for each, as long as no fault of an outline is told of the list; and where of
+-- The units of a changed list are those of the list, one for each, as long as no fault of an outline is reported for the list; and where of
 -- the stabs of units only N_LSYM stabs go, no bracket goes.
 use Rattle.std.proofs.Common.{◌≡◌, ℕ, suc, ◌+◌, ◌≤◌, ◌⊎◌, inl, inr, Bool, true, false, cond, None, arith, refl, sym, ap, ◌∙◌, subst, List, [], ◌∷◌, length, length-append, slice_get, drop, filter}
 use Rattle.std.specs.Prelude.{◌==◌, not}
@@ -26,12 +26,12 @@ use Rattle.stab_units.proofs.ChangeFaults.{NoBlockGoes, outline_matched, changed
 use Rattle.stab_units.proofs.ChangeStabs.{stabs_from-far, source_stabs, more_stabs, same_start, all_behind, gone_block, stabs_after}
 use Rattle.stab_units.proofs.ChangeMarks.{headers_ahead, headers_counted, in_its_unit, none_ahead, mark_ahead, IsNext, next_more, next_source, next_none, next_unit, no_unit, mark_after, end_after, headers_after}
 
--- the stabs of the unit that an N_SO begins are those behind it
+-- the stabs of the unit that an N_SO begins are those after it
 stabs_behind : (text_end : ℕ) (directory : List ℕ) (all : List Named) (p : ℕ) (e : Named) (es back : List Named) → (e.kind == N_SO) ≡ true → drop p all ≡ e ∷ es
     → stabs_of all (span_at text_end directory p e es) ≡ stabs_from (e ∷ back) (p + 1) es
 stabs_behind text_end directory all p e es back source is = ap (stabs_from [] (p + 1)) (drop_next all p e es is) ∙ sym (stabs_from-far e back source (p + 1) es)
 
--- behind a directory mark there are none
+-- after a directory mark there are none
 directory_stabs : (back : List Named) (p : ℕ) (es : List Named) → names_source (next es) ≡ true → stabs_from back p es ≡ []
 directory_stabs back p [] names = refl
 directory_stabs back p (f ∷ es) names = source_stabs back p f es (both_true (f.kind == N_SO) _ names).0
@@ -173,7 +173,7 @@ module _ (c : Change) (marks : Marks) (text_end : ℕ) (entries : List Named) wh
         absurd cc
   ]
 
-  -- the spans behind an entry that stays
+  -- the spans after an entry that stays
   abbrev MoreSpans : List Turn → ℕ → ℕ → Named → List Named → Type 0
   MoreSpans ts p q e back = (directory : List ℕ) (place : ℕ) → IsNext place (e ∷ back) (before ts) → ((directory ≡ []) ⊎ (open_places (e ∷ back) ≡ []))
       → AreSpansChanged c entries place (units_from text_end directory (p + 1) (before ts)) (units_from text_end directory (q + 1) (after ts))

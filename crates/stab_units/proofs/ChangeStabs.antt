@@ -24,7 +24,7 @@ use Rattle.stab_units.proofs.KindLemmas.{carrier, continued_carries}
 use Rattle.stab_units.proofs.ChangeSteps.{Turn, marked, stays, goes_out, before, after, left_file, IsBeside, Stays, GoesOut, Walk, same_continued, stays_file}
 use Rattle.stab_units.proofs.ChangeFaults.{same_joined}
 
--- ---- behind an N_SO entries are read as if they stood alone
+-- ---- after an N_SO entries are read as if they stood alone
 
 module _ (o : Named) (far : List Named) (source : (o.kind == N_SO) ≡ true) where
   headers_in-far : (near : List Named) → headers_in (near ++ o ∷ far) ≡ headers_in near
@@ -52,7 +52,7 @@ module _ (o : Named) (far : List Named) (source : (o.kind == N_SO) ≡ true) whe
 
 -- ---- one entry more
 
--- there are none behind an N_SO
+-- there are none after an N_SO
 pub source_stabs : (back : List Named) (p : ℕ) (e : Named) (es : List Named) → (e.kind == N_SO) ≡ true → stabs_from back p (e ∷ es) ≡ []
 source_stabs back p e es source = ap (λ b. cond b [] (stab_at back p e es ++ stabs_from (e ∷ back) (p + 1) es)) source
 
@@ -99,7 +99,7 @@ read_gone true e p file es more more_new test gone rest (item ∷ items) read =
 
 -- ---- entries that go
 
--- what is said of all stabs is said of those behind an entry
+-- what is said of all stabs is said of those after an entry
 pub all_behind : (P : Stab → Type 0) (b : Bool) (e : Named) (p file : ℕ) (es : List Named) (more : List Stab) → AllByRecursion P (begun b e p file es ++ more)
     → AllByRecursion P more
 all_behind P true e p file es more all = all.1

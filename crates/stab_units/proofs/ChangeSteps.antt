@@ -1,8 +1,7 @@
 -- A list and the changed one, walked side by side. Each entry of the list is a mark of a header, whose mark is changed, or it stays, or
 -- it goes; and what the definitions say of the entries before it in one list, they say of those in the other.
-use Rattle.std.proofs.Common.{◌≡◌, ℕ, zero, suc, ◌+◌, ◌⊎◌, inl, inr, Bool, true, false, cond, Option, Some, None, arith, refl, sym, ap, ◌∙◌, List, [], ◌∷◌, slice_get, filter}
+use Rattle.std.proofs.Common.{◌≡◌, ℕ, zero, suc, ◌+◌, inl, inr, Bool, true, false, cond, Option, Some, None, refl, sym, ap, ◌∙◌, List, [], ◌∷◌, slice_get, filter}
 use Rattle.std.specs.Prelude.{◌==◌, ◌&&◌}
-use Rattle.std.proofs.lemmas.Option.{same_Some}
 use Rattle.st_base.specs.Stabs.{is_stab}
 use Rattle.stab_codes.specs.declared.code.TheConstants.{N_SO, N_BINCL, N_EINCL, N_EXCL}
 use Rattle.nlist_codec.specs.declared.named.Named.{Named}
@@ -11,16 +10,16 @@ use Rattle.unit_outlines.specs.declared.kinds.Nesting.TheVariants.{Opens, Closes
 use Rattle.unit_outlines.specs.EntryWords.{behind_first}
 use Rattle.unit_outlines.specs.Nests.{nesting_of, in_headers}
 use Rattle.unit_outlines.specs.Runs.{is_open, link_at, goes, continued}
-use Rattle.unit_outlines.specs.Marks.{is_header, headers_in, file_step, file_in, all_headers, start_in, range_step, range_in}
+use Rattle.unit_outlines.specs.Marks.{is_header, file_in, all_headers, start_in, range_step, range_in}
 use Rattle.unit_outlines.specs.Sweeps.{files_turned}
-use Rattle.unit_outlines.proofs.EntryKinds.{opens_header, closes_stab, parts_source, source_parts, source_header}
+use Rattle.unit_outlines.proofs.EntryKinds.{opens_header, closes_stab, parts_source, source_parts}
 use Rattle.stab_units.specs.Changing.{Change, is_kept_in, mark_changed, is_left}
 use Rattle.stab_units.proofs.KindLemmas.{IsMark, header_kind, header_mark, either_mark, carrier, open_carries, no_carries_open, closed_ends, continued_carries}
 use Rattle.unit_outlines.proofs.RangeLemmas.{range_of, range_file, one_file, behind_get}
 
 -- ---- ranges that are open
 
--- the places of the headers whose ranges are open behind these entries, innermost first
+-- the places of the headers whose ranges are open after these entries, innermost first
 abbrev pub open_places : List Named → List ℕ
 open_places [] = []
 open_places (e ∷ back) = files_turned (in_headers e) (all_headers back) (open_places back)
@@ -33,7 +32,7 @@ range_turned Closes ends place outer places same = same (suc ends) ∙ behind_ge
 range_turned Parts ends place outer places same = refl
 range_turned Other ends place outer places same = same ends
 
--- the range behind entries is the innermost that is open, and further out the next ones
+-- the range after entries is the innermost that is open, and further out the next ones
 pub range_open : (back : List Named) (ends : ℕ) → range_in back ends ≡ slice_get (open_places back) ends
 range_open [] ends = refl
 range_open (e ∷ back) ends = range_turned (in_headers e) ends (all_headers back) (range_in back) (open_places back) (range_open back)
@@ -42,7 +41,7 @@ range_open (e ∷ back) ends = range_turned (in_headers e) ends (all_headers bac
 pub same_range : (e : Named) (back : List Named) (ends : ℕ) → in_headers e ≡ Other → range_in (e ∷ back) ends ≡ range_in back ends
 same_range e back ends other = ap (λ s. range_step s ends (all_headers back) (range_in back)) other
 
--- behind an N_SO no range is open
+-- after an N_SO no range is open
 pub source_range : (e : Named) (back : List Named) (ends : ℕ) → (e.kind == N_SO) ≡ true → range_in (e ∷ back) ends ≡ None
 source_range e back ends is = ap (λ s. range_step s ends (all_headers back) (range_in back)) (source_parts e.kind is)
 
@@ -115,7 +114,7 @@ module _ (c : Change) where
     pub gone : is_kept_in c (range_in back 0) ≡ false
     pub source : (e.kind == N_SO) ≡ false
 
-  -- turns one after another, behind these entries of the list and of the changed one
+  -- turns one after another, after these entries of the list and of the changed one
   abbrev pub Walk : List Named → List Named → List Turn → Type 0
   Walk back new [] = IsBeside back new
   Walk back new (marked e f ∷ ts) = IsMarked back e f × IsBeside back new × Walk (e ∷ back) (f ∷ new) ts
@@ -151,7 +150,7 @@ module _ (c : Change) where
   other_kind : (b kept : Bool) → b ≡ false → nesting_of N_BINCL N_EINCL (cond (b && kept) N_BINCL N_EXCL) ≡ Other
   other_kind b kept is = rw is refl
 
-  -- the ranges that are open behind a mark
+  -- the ranges that are open after a mark
   mark_ranges : (back new : List Named) (e : Named) → is_header e.kind ≡ true → IsBeside back new
       → files_turned (in_headers (mark_changed c (all_headers back) e)) (all_headers new) (open_places new) ≡ filter c.kept (files_turned (in_headers e) (all_headers back) (open_places back))
   mark_ranges back new e header beside = elim (header_kind e.kind header) [

@@ -27,7 +27,7 @@ matched_step Parts (suc n) rest = ⊥
 matched_step Other n rest = rest n
 
 module _ {E : Type 0} (role : E → Nesting) where
-  -- marks match in these entries, behind those that leave n open: each end closes one, and none is open at the end of a unit
+  -- marks match in these entries, after those that leave n open: each end closes one, and none is open at the end of a unit
   abbrev pub IsMatched : List E → ℕ → Type 0
   IsMatched [] n = n ≡ 0
   IsMatched (e ∷ es) n = matched_step (role e) n (IsMatched es)
@@ -69,14 +69,14 @@ module _ {E : Type 0} (role : E → Nesting) where
     matched-sweep (e ∷ es) n b p match = from_step (role e) n b p (IsMatched es) _ _ _
         (matched-sweep es (n + 1) (begun n b p) (p + 1)) (matched-sweep es (n - 1) b (p + 1)) (matched-sweep es n b (p + 1)) match
 
-    -- marks of a list match where none is told
+    -- marks of a list match where none is reported
     pub untold-matched : (es : List E) → Untold (nest_tell role unclosed unopened) [] es → IsMatched es 0
     untold-matched es untold = sweep-matched es 0 0 0 (sweep_first role unclosed unopened es ∙ untold-first (nest_tell role unclosed unopened) [] 0 es untold)
 
     pub matched-untold : (es : List E) → IsMatched es 0 → Untold (nest_tell role unclosed unopened) [] es
     matched-untold es match = first-untold (nest_tell role unclosed unopened) [] 0 es (sym (sweep_first role unclosed unopened es) ∙ matched-sweep es 0 0 0 match)
 
--- where marks match behind one entry more, by the places of those that are open
+-- where marks match after one entry more, by the places of those that are open
 pub matched_next : (s : Nesting) (place : ℕ) (places : List ℕ) (rest : ℕ → Type 0) → matched_step s (length places) rest
     → rest (length (files_turned s place places))
 matched_next Opens place places rest match = match

@@ -1,11 +1,12 @@
 -- Worked values, by hand after "The stabs debug format".
-use Rattle.std.proofs.Common.{◌≡◌, ◌≢◌, inl, inr, arith, get_or, ℕ, Some, None, true, false, List, [], ◌∷◌, refl, ap}
-use Rattle.std.specs.Prelude.{map, ◌++◌, ◌+◌, ◌==◌}
+use Rattle.std.proofs.Common.{◌≡◌, ◌≢◌, inl, inr, arith, get_or, ℕ, List, [], ◌∷◌, refl, ap}
+use Rattle.std.specs.Prelude.{map, ◌+◌, ◌==◌}
 use Rattle.stab_codes.specs.Table.{carries_symbol}
 use Rattle.stab_codes.specs.declared.code.TheConstants.{N_SO, N_BINCL, N_EINCL, N_EXCL, N_LBRAC, N_LSYM, N_SLINE}
+use Rattle.st_base.specs.declared.fault.Fault.{Fault}
 use Rattle.nlist_codec.specs.declared.named.Named.{Named}
 use Rattle.unit_outlines.specs.Outlines.{units_of}
-use Rattle.stab_units.specs.Units.{stabs_from}
+use Rattle.stab_units.specs.Units.{Stab, Filed, IsRead, HasFault, FaultAfter, stabs_from}
 use Rattle.stab_units.specs.Forgetting.{forgotten}
 use Rattle.stab_units.specs.Joining.{AreAlike}
 use Rattle.stab_units.specs.Changing.{Change, changed, LocalsGo}
@@ -18,6 +19,21 @@ two_stabs : stabs_from [] 1 (en N_LSYM (97 ∷ 92 ∷ []) 0 ∷ en N_LSYM (98 �
     ∷ record { entry = en N_SLINE (99 ∷ []) 7; place = 3; file = 0; string = 99 ∷ [] } ∷ []
 unfolding carries_symbol
 two_stabs = refl
+
+-- a stab of the main source with this string
+abbrev st : ℕ → List ℕ → Stab
+st kind string = record { entry = en kind string 0; place = 0; file = 0; string = string }
+
+-- a string is parsed, a line has none to parse, and the next string has the fault: 5 steps, then 7
+two_steps : (i j : Filed) (f : Fault) → IsRead (st N_LSYM (97 ∷ [])) i → IsRead (st N_SLINE []) j → HasFault (st N_LSYM (98 ∷ [])) f
+    → FaultAfter (st N_LSYM (97 ∷ []) ∷ st N_SLINE [] ∷ st N_LSYM (98 ∷ []) ∷ st N_LSYM (99 ∷ []) ∷ []) f 5 7
+unfolding carries_symbol
+two_steps i j f first second fault = inr (i, first, inr (j, second, inl (fault, refl)))
+
+-- a line has no fault
+no_step : (f : Fault) (new : ℕ) → FaultAfter (st N_SLINE (98 ∷ []) ∷ []) f 5 new → ⊥
+unfolding carries_symbol
+no_step f new h = elim h [ inl a ↦ let none = a.0.to_spell in absurd cc | inr b ↦ absurd b.2 ]
 
 -- `a` at 4 includes `b`, which one linker gives 7 and another 9: the same without them
 same_but_header : map forgotten (en N_SO (97 ∷ []) 4 ∷ en N_BINCL (98 ∷ []) 7 ∷ en N_EXCL (99 ∷ []) 2 ∷ en N_EINCL [] 0 ∷ [])
@@ -69,7 +85,7 @@ bracket_goes : let entries : List Named = en N_SO (97 ∷ []) 0 ∷ en N_BINCL (
 unfolding carries_symbol
 bracket_goes locals = let kind : N_LBRAC ≡ N_LSYM = locals.0.0 refl in omega (arith, kind)
 
--- `a` includes `b`, which has the local `i`; behind it `d/` is a unit without headers, of which nothing is seen
+-- `a` includes `b`, which has the local `i`; after it `d/` is a unit without headers, of which nothing is seen
 with_header : header_units 20 (en N_SO (97 ∷ []) 0 ∷ en N_BINCL (98 ∷ []) 1 ∷ en N_LSYM (105 ∷ []) 2 ∷ en N_EINCL [] 0 ∷ en N_SO (100 ∷ 47 ∷ []) 8 ∷ [])
     ≡ record { headers = (98 ∷ []) ∷ []; stabs = record { kind = N_LSYM; file = 1; string = 105 ∷ [] } ∷ [] } ∷ []
 unfolding carries_symbol

@@ -1,5 +1,5 @@
 -- A list of entries has no more units than entries.
-use Rattle.std.proofs.Common.{◌≡◌, ◌≤◌, ℕ, suc, ◌+◌, List, [], ◌∷◌, length, refl, ap, arith}
+use Rattle.std.proofs.Common.{◌≡◌, ◌≤◌, ℕ, suc, List, [], ◌∷◌, length, refl, ap, arith}
 use Rattle.nlist_codec.specs.declared.named.Named.{Named}
 use Rattle.unit_outlines.specs.declared.outline_types.UnitSpan.{UnitSpan}
 use Rattle.stab_units.specs.declared.unit.Unit.{Unit}

@@ -1,6 +1,6 @@
 -- Values of N_BINCL stand in no unit and in no fault: lists of entries that are the same without them have the same units and the
 -- same faults. Each definition gives the same for the list without them, but for the values of header marks, which no unit holds.
-use Rattle.std.proofs.Common.{◌≡◌, ℕ, zero, suc, ◌+◌, ◌⊎◌, inl, inr, Option, Some, None, Bool, true, false, cond, refl, sym, ap, ◌∙◌, subst, arith, List, [], ◌∷◌, ◌++◌, drop}
+use Rattle.std.proofs.Common.{◌≡◌, ℕ, zero, suc, ◌+◌, ◌⊎◌, inl, inr, Option, Some, None, Bool, true, false, cond, refl, sym, ap, ◌∙◌, subst, List, [], ◌∷◌, ◌++◌, drop}
 use Rattle.std.specs.Prelude.{◌==◌, ◌&&◌, not, map}
 use Rattle.std.proofs.lemmas.List.{map-append, drop-map}
 use Rattle.st_base.specs.declared.fault.Fault.{Fault}
@@ -59,7 +59,7 @@ kept e = kept_either (e.kind == N_BINCL) e refl
 
 -- ---- any entries, each of which is to a definition what the one in its place is
 
--- the step to what closes a mark looks at what is behind by its values alone
+-- the step to what closes a mark looks at what is after by its values alone
 same_closing : (s : Nesting) (n : ℕ) (f g : ℕ → Option ℕ) → ((m : ℕ) → f m ≡ g m) → closing_step s n f ≡ closing_step s n g
 same_closing Opens n f g same = ap one_more (same (suc n))
 same_closing Closes zero f g same = refl
@@ -100,7 +100,7 @@ module _ {E : Type 0} (h : E → E) where
     run_tells-map back e es = rw (same_bond e es, goes_on-map back e, same_piece e, text_of-map es) refl
 
   module _ (tell : Telling E) (same_tell : (back : List E) (e : E) (es : List E) → tell (map h back) (h e) (map h es) ≡ tell back e es) where
-    -- what is told at each entry is told first
+    -- what is reported at each entry is reported first
     pub first_told-map : (back : List E) (p : ℕ) (es : List E) → first_told tell (map h back) p (map h es) ≡ first_told tell back p es
     first_told-map back p [] = refl
     first_told-map back p (e ∷ es) = rw (same_tell back e es, first_told-map (e ∷ back) (p + 1) es) refl
@@ -119,7 +119,7 @@ same_file Other n number other f g is same = same n
 pub same_smallest : (a b c d k l m n : Option ℕ) → a ≡ k → b ≡ l → c ≡ m → d ≡ n → smaller a (smaller (smaller b c) d) ≡ smaller k (smaller (smaller l m) n)
 same_smallest a b c d k l m n unit headers blocks runs = rw (unit, headers, blocks, runs) refl
 
--- one more entry in front of those inside a unit
+-- one more entry before those inside a unit
 same_inside : (h : Named → Named) (e : Named) (b c : Bool) (es fs : List Named) → c ≡ b → fs ≡ map h es → cond c [] (h e ∷ fs) ≡ map h (cond b [] (e ∷ es))
 same_inside h e true c es fs test same = rw test refl
 same_inside h e false c es fs test same = rw (test, same) refl
@@ -153,7 +153,7 @@ same_stab : (b c : Bool) (d e : Named) (p f g : ℕ) (s t : List ℕ) → b ≡ 
     → cond {A = List Stab} b (record { entry = d; place = p; file = f; string = s } ∷ []) [] ≡ cond {A = List Stab} c (record { entry = e; place = p; file = g; string = t } ∷ []) []
 same_stab b c d e p f g s t begins entry file string = rw (begins, entry, file, string) refl
 
--- one more entry in front of those whose stabs are the same
+-- one more entry before those whose stabs are the same
 same_stabs : (k l : ℕ) (ss ts us vs : List Stab) → k ≡ l → ss ≡ ts → us ≡ vs → cond (k == N_SO) [] (ss ++ us) ≡ cond (l == N_SO) [] (ts ++ vs)
 same_stabs k l ss ts us vs kind here more = rw (kind, here, more) refl
 
@@ -170,7 +170,7 @@ module _ (h : Named → Named) (kind : (e : Named) → (h e).kind ≡ e.kind) (n
   in_unit-map [] = refl
   in_unit-map (e ∷ back) = rw (kind e, name e, in_unit-map back) refl
 
-  -- behind as many headers
+  -- after as many headers
   headers_in-map : (back : List Named) → headers_in (map h back) ≡ headers_in back
   headers_in-map [] = refl
   headers_in-map (e ∷ back) = rw (kind e, headers_in-map back) refl
@@ -209,11 +209,11 @@ module _ (h : Named → Named) (kind : (e : Named) → (h e).kind ≡ e.kind) (n
 
   -- ---- faults of an outline
 
-  -- what is told of an entry by itself
+  -- what is reported for an entry by itself
   unit_tell-map : (marks : Marks) (back : List Named) (e : Named) (es : List Named) → unit_tell marks (map h back) (h e) (map h es) ≡ unit_tell marks back e es
   unit_tell-map marks back e es = rw (in_unit-map back, headers_in-map back, kind e, name e) refl
 
-  -- every fault of an outline is told at the same entry
+  -- every fault of an outline is reported at the same entry
   outline_tell-map : (marks : Marks) (back : List Named) (e : Named) (es : List Named) → outline_tell marks (map h back) (h e) (map h es) ≡ outline_tell marks back e es
   outline_tell-map marks back e es = same_smallest _ _ _ _ _ _ _ _
       (unit_tell-map marks back e es)
@@ -305,7 +305,7 @@ unvalued-names (mark ∷ marks) = ap (λ names. mark.name ∷ names) (unvalued-n
 bare-unit : (span : UnitSpan) (items : List Filed) → unit_of (bare span) items ≡ unit_of span items
 bare-unit span items = rw (unvalued-names span.headers) refl
 
--- lists are the same where their first items are and those behind
+-- lists are the same where their first items are and those after
 same_cons : {A : Type 0} (x y : A) (xs ys : List A) → (x ∷ xs) ≡ (y ∷ ys) → (x ≡ y) × (xs ≡ ys)
 same_cons x y xs ys same = (cc, cc)
 

@@ -1,5 +1,5 @@
--- What a unit shows as far as its headers go hangs on the entries behind its N_SO alone, and not on where they stand. So the units with
--- headers are found by one recursion over the list; in front of a list of which no fault is told a unit gets nothing of it.
+-- What a unit shows as far as its headers go hangs on the entries after its N_SO alone, and not on where they stand. So the units with
+-- headers are found by one recursion over the list; before a list for which no fault is reported a unit gets nothing of it.
 use Rattle.std.proofs.Common.{◌≡◌, ℕ, ◌+◌, inl, inr, Some, None, Bool, true, false, cond, refl, sym, ap, ◌∙◌, List, [], ◌∷◌, ◌++◌, drop}
 use Rattle.std.specs.Prelude.{◌==◌, ◌||◌, is_some, map, filter}
 use Rattle.std.proofs.lemmas.List.{map-append}
@@ -40,7 +40,7 @@ names_in (e ∷ es) = cond (e.kind == N_SO) [] (name_at e ++ names_in es)
 abbrev begun_of : Bool → ℕ → ℕ → List ℕ → List FileStab
 begun_of begins_here kind file string = cond begins_here (record { kind = kind; file = file; string = string } ∷ []) []
 
--- the stabs before the next N_SO, behind the entries of `back`
+-- the stabs before the next N_SO, after the entries of `back`
 abbrev file_stabs_in : List Named → List Named → List FileStab
 file_stabs_in back [] = []
 file_stabs_in back (e ∷ es) = cond (e.kind == N_SO) [] (begun_of (begins back e) e.kind (file_in back 0) (string_of e es) ++ file_stabs_in (e ∷ back) es)
@@ -49,7 +49,7 @@ file_stabs_in back (e ∷ es) = cond (e.kind == N_SO) [] (begun_of (begins back 
 abbrev unit_before : List Named → HeaderUnit
 unit_before es = record { headers = names_in es; stabs = file_stabs_in [] es }
 
--- a unit in front of others, if it has headers
+-- a unit before others, if it has headers
 abbrev with_unit : HeaderUnit → List HeaderUnit → List HeaderUnit
 with_unit unit more = cond (is_some (next unit.headers)) (unit ∷ more) more
 
@@ -78,7 +78,7 @@ header_name_at : (p past : ℕ) (e : Named) → map header_name (header_at p pas
 header_name_at p past e = either_name (e.kind == N_BINCL) (e.kind == N_EXCL) (record { name = e.name; first = p; past = past; excluded = false; value = e.value })
     (record { name = e.name; first = p; past = p + 1; excluded = true; value = e.value }) e.name refl refl
 
--- one more entry in front of those whose headers have these names
+-- one more entry before those whose headers have these names
 names_more : (source : Bool) (p : ℕ) (e : Named) (es : List Named) (names : List (List ℕ)) → map header_name (headers_from (p + 1) es) ≡ names
     → map header_name (headers_from p (cond source [] (e ∷ es))) ≡ cond source [] (name_at e ++ names)
 names_more true p e es names same = refl
@@ -90,7 +90,7 @@ header_names : (p : ℕ) (es : List Named) → map header_name (headers_from p (
 header_names p [] = refl
 header_names p (e ∷ es) = names_more (e.kind == N_SO) p e (inside es) (names_in es) (header_names (p + 1) es)
 
--- one more stab in front of others, if it begins before the next N_SO
+-- one more stab before others, if it begins before the next N_SO
 stabs_more : (source begins_here : Bool) (stab : Stab) (more : List Stab) (behind : List FileStab) → map file_stab more ≡ behind
     → map file_stab (cond source [] (cond begins_here (stab ∷ []) [] ++ more)) ≡ cond source [] (begun_of begins_here stab.entry.kind stab.file stab.string ++ behind)
 stabs_more true begins_here stab more behind same = refl
@@ -108,13 +108,13 @@ next-map : {A B : Type 0} (h : A → B) (xs : List A) → is_some (next (map h x
 next-map h [] = refl
 next-map h (x ∷ xs) = refl
 
--- an item in front of others, if it passes a test
+-- an item before others, if it passes a test
 kept_if : {A B : Type 0} (h : A → B) (b c : Bool) (x : A) (y : B) (xs : List A) (ys : List B) → b ≡ c → h x ≡ y → map h xs ≡ ys → map h (cond b (x ∷ xs) xs) ≡ cond c (y ∷ ys) ys
 kept_if h true c x y xs ys test first more = rw (sym test, first, more) refl
 kept_if h false c x y xs ys test first more = rw (sym test, more) refl
 
 module _ (text_end : ℕ) (all : List Named) where
-  -- one more span in front of those whose units are found
+  -- one more span before those whose units are found
   step_found : (mark : SourceMark) (span : UnitSpan) (spans : List UnitSpan) (unit : HeaderUnit) (units : List HeaderUnit) → header_unit all span ≡ unit → with_headers all spans ≡ units
       → with_headers all (span_step mark span spans) ≡ unit_step mark unit units
   step_found Directory span spans unit units first more = more
@@ -124,7 +124,7 @@ module _ (text_end : ℕ) (all : List Named) where
   step_found Stop span spans unit units first more = more
   step_found NoMark span spans unit units first more = more
 
-  -- the unit of an N_SO hangs on the entries behind it
+  -- the unit of an N_SO hangs on the entries after it
   span_found : (directory : List ℕ) (p : ℕ) (e : Named) (es : List Named) → drop p all ≡ (e ∷ es) → header_unit all (span_at text_end directory p e es) ≡ unit_before es
   span_found directory p e es is = rw (drop_next all p e es is, header_names (p + 1) es, file_stabs [] (p + 1) es) refl
 
@@ -138,7 +138,7 @@ module _ (text_end : ℕ) (all : List Named) where
 units_found : (text_end : ℕ) (es : List Named) → header_units text_end es ≡ found_units es
 units_found text_end es = spans_found text_end es [] 0 es refl
 
--- ---- one list behind the other
+-- ---- one list after the other
 
 -- these entries give a unit before them nothing
 record GivesNone (es : List Named) : Type 0 where
@@ -171,11 +171,11 @@ gives_none_by false e es is behind =
       stabs = λ back. none_more (e.kind == N_SO) _ (file_stabs_in (e ∷ back) es) (none_begun (begins back e) e.kind (file_in back 0) (string_of e es) (never_begins back e both.0)) (both.1.stabs (e ∷ back));
     }
 
--- an entry that is no N_SO leaves what is behind it outside every unit
+-- an entry that is no N_SO leaves what is after it outside every unit
 within_same : (source named within : Bool) → source ≡ false → within ≡ false → cond source named within ≡ false
 within_same source named within other out = rw other out
 
--- outside every unit, where no fault is told, no stab is a unit's
+-- outside every unit, where no fault is reported, no stab is a unit's
 untold-gives_none : (marks : Marks) (back es : List Named) → in_unit back ≡ false → Untold (outline_tell marks) back es → GivesNone es
 untold-gives_none marks back [] out untold = record { names = refl; stabs = λ back. refl }
 untold-gives_none marks back (e ∷ es) out untold = gives_none_by (e.kind == N_SO) e es refl (λ other. (
@@ -183,7 +183,7 @@ untold-gives_none marks back (e ∷ es) out untold = gives_none_by (e.kind == N_
   untold-gives_none marks (e ∷ back) es (within_same (e.kind == N_SO) _ (in_unit back) other out) untold.1,
 ))
 
--- a unit has the same headers where entries that give none stand behind its list
+-- a unit has the same headers where entries that give none stand after its list
 names_in-append : (es fs : List Named) → GivesNone fs → names_in (es ++ fs) ≡ names_in es
 names_in-append [] fs none = none.names
 names_in-append (e ∷ es) fs none = ap (λ names. cond (e.kind == N_SO) [] (name_at e ++ names)) (names_in-append es fs none)
@@ -196,7 +196,7 @@ same_carried carries s t name same = rw same refl
 string_of-append : (e : Named) (es fs : List Named) → Unbroken (e ∷ es) → string_of e (es ++ fs) ≡ string_of e es
 string_of-append e es fs unbroken = same_carried (carries_symbol e.kind) (joined (e ∷ (es ++ fs))) (joined (e ∷ es)) e.name (joined-more e es fs unbroken)
 
--- one more entry in front of stabs is made of these
+-- one more entry before stabs is made of these
 same_stabs : (b c : Bool) (d e : Bool) (k l f g : ℕ) (s t : List ℕ) (us vs : List FileStab) → b ≡ c → d ≡ e → k ≡ l → f ≡ g → s ≡ t → us ≡ vs
     → cond b [] (begun_of d k f s ++ us) ≡ cond c [] (begun_of e l g t ++ vs)
 same_stabs b c d e k l f g s t us vs source begins_here kind file string more = rw (source, begins_here, kind, file, string, more) refl
@@ -212,7 +212,7 @@ file_stabs_in-append back (e ∷ es) fs unbroken none =
 unit_before-append : (es fs : List Named) → Unbroken es → GivesNone fs → unit_before (es ++ fs) ≡ unit_before es
 unit_before-append es fs unbroken none = rw (names_in-append es fs none, file_stabs_in-append [] es fs unbroken none) refl
 
--- a unit stands in front of all units behind it
+-- a unit stands before all units after it
 with_unit-append : (b : Bool) (unit : HeaderUnit) (us vs : List HeaderUnit) → cond b (unit ∷ (us ++ vs)) (us ++ vs) ≡ cond b (unit ∷ us) us ++ vs
 with_unit-append true unit us vs = refl
 with_unit-append false unit us vs = refl
@@ -231,7 +231,7 @@ no_unit Start unit units none = rw none refl
 no_unit Stop unit units none = refl
 no_unit NoMark unit units none = refl
 
--- the units with headers of two lists one behind the other are those of each
+-- the units with headers of two lists one after the other are those of each
 found-append : (es fs : List Named) → Unbroken es → GivesNone fs → found_units (es ++ fs) ≡ found_units es ++ found_units fs
 found-append [] fs unbroken none = refl
 found-append (e ∷ []) fs unbroken none =
@@ -283,7 +283,7 @@ module _ (h : Named → Named) (like : (e : Named) → IsAlike e (h e)) where
         (names_in-like es)
   ]
 
-  -- one more entry in front of those whose stabs are the same
+  -- one more entry before those whose stabs are the same
   stab-like : (back : List Named) (e : Named) (es : List Named) (us vs : List FileStab) → us ≡ vs
       → cond ((h e).kind == N_SO) [] (begun_of (begins (map h back) (h e)) (h e).kind (file_in (map h back) 0) (string_of (h e) (map h es)) ++ us)
       ≡ cond (e.kind == N_SO) [] (begun_of (begins back e) e.kind (file_in back 0) (string_of e es) ++ vs)

@@ -5,13 +5,12 @@ use Rattle.st_base.specs.Stabs.{is_stab}
 use Rattle.stab_codes.specs.declared.code.TheConstants.{N_SO, N_BINCL, N_EINCL, N_EXCL, N_LBRAC, N_RBRAC}
 use Rattle.stab_codes.specs.Table.{carries_symbol}
 use Rattle.nlist_codec.specs.declared.named.Named.{Named}
-use Rattle.unit_outlines.specs.declared.kinds.SourceMark.TheVariants.{NoMark}
-use Rattle.unit_outlines.specs.declared.kinds.Nesting.TheVariants.{Opens, Closes, Parts, Other}
+use Rattle.unit_outlines.specs.declared.kinds.Nesting.TheVariants.{Opens, Other}
 use Rattle.unit_outlines.specs.declared.kinds.Link.TheVariants.{Ends, Goes, Broken}
 use Rattle.unit_outlines.specs.EntryWords.{ends_in}
 use Rattle.unit_outlines.specs.Nests.{nesting_of}
 use Rattle.unit_outlines.specs.Runs.{is_open, link_at, goes, piece_of, continued}
-use Rattle.unit_outlines.specs.Marks.{mark_at, is_header, is_plain}
+use Rattle.unit_outlines.specs.Marks.{is_header, is_plain}
 use Rattle.unit_outlines.proofs.EntryKinds.{is_kind}
 use Rattle.stab_units.proofs.AlikeLemmas.{no_carries, both_true}
 

@@ -2,6 +2,7 @@ pub mod Examples
 pub mod ListLemmas
 pub mod ReadingLemmas
 pub mod UnitLemmas
+pub mod StopLemmas
 pub mod FewLemmas
 pub mod OneLaws
 pub mod ForgetLemmas

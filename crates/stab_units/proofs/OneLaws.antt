@@ -1,5 +1,5 @@
 -- The stabs of a unit are read as one unit, or have one first fault; so do all units.
-use Rattle.std.proofs.Common.{◌≡◌, ℕ, ◌⊎◌, inl, inr, Option, Some, None, Bool, true, false, refl, sym, ap, ◌∙◌, List, [], ◌∷◌}
+use Rattle.std.proofs.Common.{◌≡◌, ℕ, ◌⊎◌, inl, inr, Option, Some, None, Bool, true, false, refl, sym, ap, ◌∙◌, List, [], ◌∷◌, ◌+◌, cond}
 use Rattle.st_base.specs.declared.fault.Fault.{Fault}
 use Rattle.nlist_codec.specs.declared.named.Named.{Named}
 use Rattle.stab_symbols.specs.declared.tree.Symbol.{Symbol}
@@ -11,9 +11,10 @@ use Rattle.stab_units.specs.declared.unit.ItemText.{ItemText}
 use Rattle.stab_units.specs.declared.unit.ItemText.TheVariants as texts
 use Rattle.stab_units.specs.declared.unit.Unit.{Unit}
 use Rattle.unit_outlines.specs.Outlines.{OutlineFault, units_of}
-use Rattle.stab_units.specs.Units.{Stab, Filed, spells, has_symbol, IsTextOf, HasFaultOf, HasFault, at_entry, item_of, IsRead, AreRead, FirstFault, unit_of, stabs_of, IsUnitOf, AreUnitsOf, UnitFault, SpansFault}
-use Rattle.stab_units.specs.ObjectUnits.{AreUnits, UnitsFault}
+use Rattle.stab_units.specs.Units.{Stab, Filed, spells, has_symbol, IsTextOf, HasFaultOf, HasFault, at_entry, item_of, IsRead, AreRead, FirstFault, FaultAfter, unit_of, stabs_of, parsed, IsUnitOf, AreUnitsOf, UnitFault, UnitFaultAfter, SpansFault, SpansFaultAfter}
+use Rattle.stab_units.specs.ObjectUnits.{AreUnits, UnitsFault, UnitsFaultAfter}
 use Rattle.unit_outlines.proofs.Together.{one_fault, some_outline}
+use Rattle.stab_units.proofs.StopLemmas.{unit_fault}
 
 differ : (f : Fault) → None ≡ Some f → ⊥
 differ f e = absurd cc
@@ -90,6 +91,13 @@ module _ (some_string : (text : List ℕ) → ((s : Symbol) × IsSpelling s text
   not_both (s ∷ ss) [] f a h = absurd a
   not_both (s ∷ ss) (i ∷ is) f a h = elim h [ inl x ↦ read_no_fault s i f a.0 x | inr x ↦ not_both ss is f a.1 x.2 ]
 
+  count_one : (ss : List Stab) (f g : Fault) (old m n : ℕ) → FaultAfter ss f old m → FaultAfter ss g old n → m ≡ n
+  count_one [] f g old m n a b = absurd a
+  count_one (s ∷ ss) f g old m n a b = elim a [
+    | inl x ↦ elim b [ inl y ↦ x.1 ∙ sym y.1 | inr y ↦ absurd (read_no_fault s y.0 f y.1 x.0) ]
+    | inr x ↦ elim b [ inl y ↦ absurd (read_no_fault s x.0 g x.1 y.0) | inr y ↦ count_one ss f g (old + cond (has_symbol s) 1 0) m n x.2 y.2 ]
+  ]
+
   -- ---- one unit
 
   pub some_unit : (entries : List Named) (span : UnitSpan) → ((u : Unit) × IsUnitOf entries span u) ⊎ ((f : Fault) × UnitFault entries span f)
@@ -106,6 +114,9 @@ module _ (some_string : (text : List ℕ) → ((s : Symbol) × IsSpelling s text
 
   pub unit_not_both : (entries : List Named) (span : UnitSpan) (u : Unit) (f : Fault) → IsUnitOf entries span u → UnitFault entries span f → ⊥
   unit_not_both entries span u f a h = not_both (stabs_of entries span) a.items f a.read h
+
+  pub one_unit_count : (entries : List Named) (span : UnitSpan) (f g : Fault) (old m n : ℕ) → UnitFaultAfter entries span f old m → UnitFaultAfter entries span g old n → m ≡ n
+  one_unit_count entries span f g old m n a b = count_one (stabs_of entries span) f g old m n a b
 
   -- ---- units of spans
 
@@ -136,6 +147,13 @@ module _ (some_string : (text : List ℕ) → ((s : Symbol) × IsSpelling s text
   spans_not_both entries (s ∷ spans) [] f a h = absurd a
   spans_not_both entries (s ∷ spans) (u ∷ us) f a h = elim h [ inl x ↦ unit_not_both entries s u f a.0 x | inr x ↦ spans_not_both entries spans us f a.1 x.2 ]
 
+  pub spans_count_one : (entries : List Named) (spans : List UnitSpan) (f g : Fault) (old m n : ℕ) → SpansFaultAfter entries spans f old m → SpansFaultAfter entries spans g old n → m ≡ n
+  spans_count_one entries [] f g old m n a b = absurd a
+  spans_count_one entries (s ∷ spans) f g old m n a b = elim a [
+    | inl x ↦ elim b [ inl y ↦ one_unit_count entries s f g old m n x y | inr y ↦ absurd (unit_not_both entries s y.0 f y.1 (unit_fault entries s f old m x)) ]
+    | inr x ↦ elim b [ inl y ↦ absurd (unit_not_both entries s x.0 g x.1 (unit_fault entries s g old n y)) | inr y ↦ spans_count_one entries spans f g (old + parsed (stabs_of entries s)) m n x.2 y.2 ]
+  ]
+
   -- ---- all units
 
   units_behind : (t : ℕ) (entries : List Named) (o : Option Fault) → OutlineFault Object entries o → ((us : List Unit) × AreUnits t entries us) ⊎ ((f : Fault) × UnitsFault t entries f)
@@ -161,4 +179,10 @@ module _ (some_string : (text : List ℕ) → ((s : Symbol) × IsSpelling s text
   units_not_both t entries us f a h = elim h [
     | inl x ↦ differ f (one_fault Object entries None (Some f) a.no_fault x)
     | inr x ↦ spans_not_both entries (units_of t entries) us f a.are x.1
+  ]
+
+  pub units_count_one : (t : ℕ) (entries : List Named) (f g : Fault) (old m n : ℕ) → UnitsFaultAfter t entries f old m → UnitsFaultAfter t entries g old n → m ≡ n
+  units_count_one t entries f g old m n a b = elim a [
+    | inl x ↦ elim b [ inl y ↦ x.1 ∙ sym y.1 | inr y ↦ absurd (differ f (one_fault Object entries None (Some f) y.0 x.0)) ]
+    | inr x ↦ elim b [ inl y ↦ absurd (differ g (one_fault Object entries None (Some g) x.0 y.0)) | inr y ↦ spans_count_one entries (units_of t entries) f g old m n x.1 y.1 ]
   ]

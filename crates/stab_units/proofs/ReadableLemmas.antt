@@ -1,4 +1,4 @@
--- The entries of an object have units where no fault of an outline is told and each string that an entry begins, and that is to
+-- The entries of an object have units where no fault of an outline is reported and each string that an entry begins, and that is to
 -- spell a symbol, spells one; and in no other case. So the strings of a list can be spoken of without its units.
 use Rattle.std.proofs.Common.{◌≡◌, ℕ, suc, ◌+◌, Option, Some, None, Bool, true, false, cond, add-one, zero, refl, sym, ap, ◌∙◌, subst, List, [], ◌∷◌, ◌++◌, drop}
 use Rattle.std.specs.Prelude.{⊤, ◌==◌, ◌&&◌, not}
@@ -94,7 +94,7 @@ none_spelled string is = absurd cc
 source_spells : (back : List Named) (e : Named) (es : List Named) → (e.kind == N_SO) ≡ true → SpellsAt back e es
 source_spells back e es is = λ begins_here to_spell. absurd (none_spelled (string_of e es) (rw (source_carries e is) at to_spell))
 
--- behind an N_SO a list is read as if it stood alone
+-- after an N_SO a list is read as if it stood alone
 behind_source : (e : Named) (es : List Named) → (e.kind == N_SO) ≡ true → Readable (e ∷ []) es → Readable [] es
 behind_source e [] is readable = tt
 behind_source e (f ∷ es) is readable =
@@ -118,7 +118,7 @@ spelled_by : (carries : Bool) (string : List ℕ) (text : ItemText) → IsTextOf
 spelled_by carries string (texts.Symbol symbol) is to_spell = (symbol, is.1)
 spelled_by carries string (texts.Raw text) is to_spell = let other = is.0 in absurd cc
 
--- stabs of which each can be read, those that begin at an entry and those behind it
+-- stabs of which each can be read, those that begin at an entry and those after it
 with_begun : (b : Bool) (e : Named) (p file : ℕ) (es : List Named) (more : List Stab) → Spells b (carries_symbol e.kind) (string_of e es)
     → (items : List Filed) × AreRead more items → (items : List Filed) × AreRead (begun b e p file es ++ more) items
 with_begun true e p file es more spell read =
@@ -162,7 +162,7 @@ start_source : (source : Bool) (m : SourceMark) → cond source m NoMark ≡ Sta
 start_source true m is = refl
 start_source false m is = absurd cc
 
--- what is behind a directory mark names a source
+-- what is after a directory mark names a source
 pub directory_next : (source nameless ends_so names : Bool) → cond source (cond nameless Stop (cond (ends_so && names) Directory Start)) NoMark ≡ Directory → names ≡ true
 directory_next true true ends_so names is = absurd cc
 directory_next true false true true is = refl
@@ -193,7 +193,7 @@ behind_directory : (back es : List Named) → names_source (next es) ≡ true �
 behind_directory back [] names = tt
 behind_directory back (f ∷ es) names = λ other. absurd (source_not (f.kind == N_SO) _ names other)
 
--- an entry outside every unit of which nothing is told is no stab, if it is no N_SO
+-- an entry outside every unit for which nothing is reported is no stab, if it is no N_SO
 pub no_stab : (stab source named within : Bool) (o : Option ℕ) → source ≡ false → within ≡ false → cond (not stab) None (cond (source && named) None (cond (not within) (Some NO_UNIT) o)) ≡ None → stab ≡ false
 no_stab true true named within o other out none = absurd cc
 no_stab true false named true o other out none = absurd cc
@@ -215,7 +215,7 @@ entry_spells back e es false false is so none unit = λ begins_here to_spell.
 
 -- ---- units and strings
 
--- the entries behind the first of those that are left
+-- the entries after the first of those that are left
 drop_suc : (all : List Named) (p : ℕ) (e : Named) (es : List Named) → drop p all ≡ (e ∷ es) → drop (suc p) all ≡ es
 drop_suc [] zero e es is = absurd cc
 drop_suc [] (suc p) e es is = absurd cc
@@ -234,7 +234,7 @@ module _ (text_end : ℕ) (all : List Named) where
   unit_more Stop span spans unit units = units
   unit_more NoMark span spans unit units = units
 
-  -- the unit of an N_SO behind which a list can be read
+  -- the unit of an N_SO after which a list can be read
   start_unit : (directory : List ℕ) (p : ℕ) (e : Named) (es : List Named) → drop p all ≡ (e ∷ es) → Readable (e ∷ []) es → mark_at e (next es) ≡ Start
       → (unit : Unit) × IsUnitOf all (span_at text_end directory p e es) unit
   start_unit directory p e es is readable starts =
@@ -250,7 +250,7 @@ module _ (text_end : ℕ) (all : List Named) where
       (start_unit directory p e es is readable.1)
       (spans_read (directory_of (mark_at e (next es)) e.name) (p + 1) (e ∷ []) es (drop_next all p e es is) readable.1)
 
-  -- the units behind the first mark
+  -- the units after the first mark
   units_behind : (mark : SourceMark) (span : UnitSpan) (spans : List UnitSpan) (units : List Unit) → AreUnitsOf all (span_step mark span spans) units → (more : List Unit) × AreUnitsOf all spans more
   units_behind Directory span spans units are = (units, are)
   units_behind Start span spans [] are = absurd are
@@ -263,7 +263,7 @@ module _ (text_end : ℕ) (all : List Named) where
   unit_first span spans [] are = absurd are
   unit_first span spans (unit ∷ units) are = (unit, are.0)
 
-  -- what is behind an N_SO with a name was read, up to the next N_SO
+  -- what is after an N_SO with a name was read, up to the next N_SO
   behind_mark : (directory : List ℕ) (p : ℕ) (back : List Named) (e : Named) (es : List Named) (spans : List UnitSpan) (units : List Unit) (mark : SourceMark)
       → drop p all ≡ (e ∷ es) → (e.kind == N_SO) ≡ true → not (is_empty e.name) ≡ true → mark_at e (next es) ≡ mark
       → AreUnitsOf all (span_step mark (span_at text_end directory p e es) spans) units → UnitReadable (e ∷ back) es
@@ -276,7 +276,7 @@ module _ (text_end : ℕ) (all : List Named) where
   behind_mark directory p back e es spans units Stop is source named marks are = absurd (no_stop (e.kind == N_SO) (is_empty e.name) _ marks named)
   behind_mark directory p back e es spans units NoMark is source named marks are = absurd (no_mark (e.kind == N_SO) (is_empty e.name) _ marks source)
 
-  -- what is behind an entry in its unit was read
+  -- what is after an entry in its unit was read
   behind_entry : (directory : List ℕ) (p : ℕ) (back : List Named) (e : Named) (es : List Named) (spans : List UnitSpan) (units : List Unit) (source : Bool)
       → drop p all ≡ (e ∷ es) → (e.kind == N_SO) ≡ source → (in_unit back ≡ true → UnitReadable back (e ∷ es))
       → AreUnitsOf all (span_step (mark_at e (next es)) (span_at text_end directory p e es) spans) units
@@ -303,13 +303,13 @@ not_within is = absurd cc
 pub units-readable : (text_end : ℕ) (es : List Named) (units : List Unit) → AreUnits text_end es units → Readable [] es
 units-readable text_end es units are = spans_readable text_end es [] 0 [] es units refl (fault-untold Object es are.no_fault) (λ is. absurd (not_within is)) are.are
 
--- entries that can be read have units, where no fault of an outline is told
+-- entries that can be read have units, where no fault of an outline is reported
 pub readable-units : (text_end : ℕ) (es : List Named) → Untold (outline_tell Object) [] es → Readable [] es → (units : List Unit) × AreUnits text_end es units
 readable-units text_end es untold readable =
     let units = spans_read text_end es [] 0 [] es refl readable in
     (units.0, record { no_fault = untold-fault Object es untold; are = units.1 })
 
--- ---- one list behind the other
+-- ---- one list after the other
 
 fewer_begin : (plain going : Bool) → (plain && not going) ≡ true → (plain && not false) ≡ true
 fewer_begin true going is = refl
@@ -323,7 +323,7 @@ readable-before back (e ∷ es) readable = (λ begins_here. readable.0 (fewer_be
 same_string : (carries : Bool) (s t name : List ℕ) → s ≡ t → cond carries s name ≡ cond carries t name
 same_string carries s t name same = rw same refl
 
--- lists that can be read can be where one stands behind the other
+-- lists that can be read can be where one stands after the other
 readable-append : (back es fs : List Named) → Unbroken es → Readable back es → Readable [] fs → Readable back (es ++ fs)
 readable-append back [] fs unbroken first second = readable-before back fs second
 readable-append back (e ∷ es) fs unbroken first second = (
@@ -332,7 +332,7 @@ readable-append back (e ∷ es) fs unbroken first second = (
   readable-append (e ∷ []) es fs unbroken.1 first.1 second,
 )
 
--- lists that each have units have units where one stands behind the other
+-- lists that each have units have units where one stands after the other
 pub units-append : (end other text_end : ℕ) (es fs : List Named) (us vs : List Unit) → AreUnits end es us → AreUnits other fs vs → (units : List Unit) × AreUnits text_end (es ++ fs) units
 units-append end other text_end es fs us vs first second =
     let untold = fault-untold Object es first.no_fault in

@@ -17,7 +17,7 @@ use Rattle.stab_units.specs.declared.reader.Reader.{Reader}
 use Rattle.unit_outlines.specs.EntryWords.{next}
 use Rattle.unit_outlines.specs.Runs.{goes, link_at, continued}
 use Rattle.unit_outlines.specs.Marks.{file_in, is_plain}
-use Rattle.stab_units.specs.Units.{Stab, Filed, begun, stab_at, stabs_from, IsTextOf, string_of, item_of, HasFaultOf, AreRead, symbols_in, symbols_at, file_of, files_from, names_of, body_at, MakesUnit, FirstFault, parsed}
+use Rattle.stab_units.specs.Units.{Stab, Filed, begun, stab_at, stabs_from, spells, has_symbol, IsTextOf, string_of, item_of, HasFaultOf, AreRead, symbols_in, symbols_at, file_of, files_from, names_of, body_at, MakesUnit, FaultAfter, parsed}
 use Rattle.unit_outlines.specs.Sweeps.{Nests}
 use Rattle.stab_units.specs.ReadingWalk.{with_symbol, with_text, with_items, goes_to, blank, HasTaken, HasRead, HasReadAll}
 
@@ -115,6 +115,15 @@ none_there (f ∷ files) (suc k) symbol e = ap (λ (z : List HeaderFile). f ∷ 
 pub same_fault : (a b : Bool) (s t : List ℕ) (p : ℕ) (f : Fault) → a ≡ b → s ≡ t → HasFaultOf a s p f → HasFaultOf b t p f
 same_fault a b s t p f x y h = subst (λ (z : Bool). HasFaultOf z t p f) x (subst (λ (z : List ℕ). HasFaultOf a z p f) y h)
 
+-- a string that has a fault is parsed
+pub one_step : (carries : Bool) (string : List ℕ) (p : ℕ) (f : Fault) (old new : ℕ) → HasFaultOf carries string p f → new ≡ old + cond (spells carries string) 1 0 → new ≡ old + 1
+one_step carries string p f old new fault ticks = ticks ∙ ap (λ (z : Bool). old + cond z 1 0) fault.to_spell
+
+-- an entry that begins a stab stops where its string has a fault
+pub stopped : (begins : Bool) (e : Named) (p file : ℕ) (es : List Named) (f : Fault) (old new : ℕ) → begins ≡ true
+    → HasFaultOf (carries_symbol e.kind) (string_of e es) p f → new ≡ old + 1 → FaultAfter (begun begins e p file es) f old new
+stopped begins e p file es f old new is fault step = subst (λ (z : Bool). FaultAfter (begun z e p file es) f old new) (sym is) (inl (fault, step))
+
 -- an entry that begins a stab is one item
 pub taken : (begins : Bool) (e : Named) (p file : ℕ) (es : List Named) (files files_new : List HeaderFile) (body body_new : List Item) (text : ItemText) → begins ≡ true
     → IsTextOf (carries_symbol e.kind) (string_of e es) text → files_new ≡ with_text files file text → body_new ≡ body ++ body_at (record { file = file; item = item_of e text })
@@ -141,14 +150,16 @@ parsed-append : (ss ts : List Stab) → parsed (ss ++ ts) ≡ parsed ss + parsed
 parsed-append [] ts = omega arith
 parsed-append (s ∷ ss) ts = let h = parsed-append ss ts in omega arith
 
-fault-left : (ss rest : List Stab) (f : Fault) → FirstFault ss f → FirstFault (ss ++ rest) f
-fault-left [] rest f h = absurd h
-fault-left (s ∷ ss) rest f h = elim h [ inl a ↦ inl a | inr b ↦ inr (b.0, b.1, fault-left ss rest f b.2) ]
+fault-left : (ss rest : List Stab) (f : Fault) (old new : ℕ) → FaultAfter ss f old new → FaultAfter (ss ++ rest) f old new
+fault-left [] rest f old new h = absurd h
+fault-left (s ∷ ss) rest f old new h = elim h [ inl a ↦ inl a | inr b ↦ inr (b.0, b.1, fault-left ss rest f (old + cond (has_symbol s) 1 0) new b.2) ]
 
-fault-behind : (done : List Stab) (items : List Filed) (rest : List Stab) (f : Fault) → AreRead done items → FirstFault rest f → FirstFault (done ++ rest) f
-fault-behind [] items rest f a h = h
-fault-behind (s ∷ done) [] rest f a h = absurd a
-fault-behind (s ∷ done) (i ∷ items) rest f a h = inr (i, a.0, fault-behind done items rest f a.1 h)
+fault-behind : (done : List Stab) (items : List Filed) (rest : List Stab) (f : Fault) (old new : ℕ) → AreRead done items → FaultAfter rest f (old + parsed done) new → FaultAfter (done ++ rest) f old new
+fault-behind [] items rest f old new a h = let e : old + 0 ≡ old = omega arith in subst (λ (z : ℕ). FaultAfter rest f z new) e h
+fault-behind (s ∷ done) [] rest f old new a h = absurd a
+fault-behind (s ∷ done) (i ∷ items) rest f old new a h =
+    let e : old + (cond (has_symbol s) 1 0 + parsed done) ≡ old + cond (has_symbol s) 1 0 + parsed done = omega arith in
+    inr (i, a.0, fault-behind done items rest f (old + cond (has_symbol s) 1 0) new a.1 (subst (λ (z : ℕ). FaultAfter rest f z new) e h))
 
 -- ---- one entry
 
@@ -212,10 +223,12 @@ module _ (all : List Stab) (names : List (List ℕ)) (start p : ℕ) (e : Named)
       }
 
   -- its string has a fault
-  pub read_fault : (f : Fault) → FirstFault (begun begins e p file es) f → FirstFault all f
-  read_fault f h =
-      let g : FirstFault here f = subst (λ (z : List Stab). FirstFault z f) here_is h in
-      subst (λ (z : List Stab). FirstFault z f) whole (fault-behind was.done was.items (here ++ behind) f was.read (fault-left here behind f g))
+  pub read_fault : (f : Fault) (new : ℕ) → FaultAfter (begun begins e p file es) f steps new → FaultAfter all f start new
+  read_fault f new h =
+      let g : FaultAfter here f steps new = subst (λ (z : List Stab). FaultAfter z f steps new) here_is h in
+      let k : FaultAfter here f (start + parsed was.done) new = subst (λ (z : ℕ). FaultAfter here f z new) was.counted g in
+      subst (λ (z : List Stab). FaultAfter z f start new) whole
+      (fault-behind was.done was.items (here ++ behind) f start new was.read (fault-left here behind f (start + parsed was.done) new k))
 
 -- no stab is left
 module _ (all : List Stab) (span : UnitSpan) (start : ℕ) (r : Reader) (steps : ℕ) (was : HasReadAll all (names_of span) start r steps) where

@@ -34,14 +34,14 @@ marked kind value e = record e { kind = kind; value = value }
 abbrev pub mark_changed : Change → ℕ → Named → Named
 mark_changed c place e = marked (cond ((e.kind == N_BINCL) && c.kept place) N_BINCL N_EXCL) (c.value place) e
 
--- what an entry behind those of `back`, nearest first, becomes: the mark of a header is changed, another stab goes with its range, and
+-- what an entry after those of `back`, nearest first, becomes: the mark of a header is changed, another stab goes with its range, and
 -- what is no stab stays
 abbrev pub changed_at : Change → List Named → Named → List Named
 changed_at c back e =
     cond (is_header e.kind) (mark_changed c (all_headers back) e ∷ [])
     (cond (is_stab e.kind) (cond (is_kept_in c (range_in back 0)) (e ∷ []) []) (e ∷ []))
 
--- what the entries behind those of `back` become
+-- what the entries after those of `back` become
 abbrev pub changed_from : Change → List Named → List Named → List Named
 changed_from c back [] = []
 changed_from c back (e ∷ es) = changed_at c back e ++ changed_from c (e ∷ back) es
@@ -52,7 +52,8 @@ changed c entries = changed_from c [] entries
 
 -- ---- units
 
--- the file of a unit whose first header has this place stays: its own file does, and those of headers that keep their entries
+-- whether a file of a unit keeps its symbols, where the unit's first header has this place in the list: its own file does, and the file of
+-- each header that keeps its entries
 abbrev pub is_left : Change → ℕ → ℕ → Bool
 is_left c place zero = true
 is_left c place (suc file) = c.kept (place + file)

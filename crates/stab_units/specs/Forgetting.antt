@@ -1,4 +1,4 @@
--- Entries without the values of N_BINCL, which say nothing of a program: a linker writes its own there, to tell equal headers by.
+-- Entries without the values of N_BINCL, which carry no debug information: a linker writes its own there, to tell equal headers by.
 -- After "The stabs debug format", on include files.
 use Rattle.std.specs.Prelude.{◌==◌, cond}
 use Rattle.stab_codes.specs.declared.code.TheConstants.{N_BINCL}

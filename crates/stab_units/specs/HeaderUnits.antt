@@ -1,5 +1,5 @@
 -- The units of a list that have headers, as far as their headers go: the names of the headers, and of each stab its kind, its file and its
--- string. Places, values and the unit's own name are left out, so these units are the same where the list stands behind another one.
+-- string. Places, values and the unit's own name are left out, so these units are the same where the list stands after another one.
 use Rattle.std.specs.Prelude.{ℕ, Bool, List, map, filter, is_some}
 use Rattle.nlist_codec.specs.declared.named.Named.{Named}
 use Rattle.unit_outlines.specs.declared.outline_types.UnitSpan.{UnitSpan}

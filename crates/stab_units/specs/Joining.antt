@@ -1,4 +1,4 @@
--- Entries that a linker makes of others as it puts objects one behind the other: each gets another value, and one that is no stab
+-- Entries that a linker makes of others as it puts objects one after the other: each gets another value, and one that is no stab
 -- may get another kind that is no stab either. A stab keeps its kind and its name. After a.out(5).
 use Rattle.std.specs.Prelude.{◌≡◌, ◌⊎◌, ⊤, true, false, List, [], ◌∷◌}
 use Rattle.st_base.specs.Stabs.{is_stab}

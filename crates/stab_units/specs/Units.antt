@@ -1,6 +1,6 @@
 -- What the stabs of a unit are read as: its files with their symbols, and its body. After "The stabs debug format"; that each unit
 -- numbers its own files is that of binutils.
-use Rattle.std.specs.Prelude.{◌≡◌, ℕ, ◌+◌, ◌&&◌, ◌||◌, ◌==◌, ◌⊎◌, ⊤, not, Bool, true, false, cond, List, [], ◌∷◌, ◌++◌, drop, map, flat_map}
+use Rattle.std.specs.Prelude.{◌≡◌, ℕ, ◌+◌, ◌&&◌, ◌==◌, ◌⊎◌, ⊤, not, Bool, true, false, cond, List, [], ◌∷◌, ◌++◌, drop, map, flat_map}
 use Rattle.st_base.specs.declared.fault.Fault.{Fault}
 use Rattle.stab_codes.specs.declared.code.TheConstants.{N_SO}
 use Rattle.stab_codes.specs.Table.{carries_symbol}
@@ -41,7 +41,7 @@ begun begins e p file es = cond begins (record { entry = e; place = p; file = fi
 abbrev pub stab_at : List Named → ℕ → Named → List Named → List Stab
 stab_at back p e es = begun (is_plain e.kind && not (continued back e)) e p (file_in back 0) es
 
--- the stabs before the next N_SO, behind the entries of `back`, nearest first; the first entry has the number p
+-- the stabs before the next N_SO, after the entries of `back`, nearest first; the first entry has the number p
 abbrev pub stabs_from : List Named → ℕ → List Named → List Stab
 stabs_from back p [] = []
 stabs_from back p (e ∷ es) = cond (e.kind == N_SO) [] (stab_at back p e es ++ stabs_from (e ∷ back) (p + 1) es)
@@ -52,7 +52,7 @@ stabs_of entries span = stabs_from [] (span.first + 1) (drop (span.first + 1) en
 
 -- ---- what they are read as
 
--- a string is to spell a symbol: its stab carries one, and it is not empty
+-- a string is to spell a symbol: its stab has a code whose string is a symbol (`carries_symbol`), and the string is not empty
 abbrev pub spells : Bool → List ℕ → Bool
 spells carries string = carries && not (is_empty string)
 
@@ -154,7 +154,7 @@ IsUnitOf entries span unit = MakesUnit (stabs_of entries span) span unit
 
 -- ---- faults of strings, and all units
 
--- the fault of a string, told by the number of its first entry and the place in the string
+-- the fault of a string, given by the number of its first entry and the place in the string
 abbrev pub at_entry : ℕ → Fault → Fault
 at_entry place f = record { number = f.number; place = place; within = f.place }
 
@@ -199,3 +199,21 @@ parsed (s ∷ ss) = cond (has_symbol s) 1 0 + parsed ss
 abbrev pub parsed_in : List Named → List UnitSpan → ℕ
 parsed_in entries [] = 0
 parsed_in entries (s ∷ spans) = parsed (stabs_of entries s) + parsed_in entries spans
+
+-- ---- steps where a string is refused
+
+-- after `old` steps these stabs are read in order, a step for each string that is parsed, up to and with the first that has a fault,
+-- which is this one: then there are `new` steps
+abbrev pub FaultAfter : List Stab → Fault → ℕ → ℕ → Type 0
+FaultAfter [] f old new = ⊥
+FaultAfter (s ∷ ss) f old new = (HasFault s f × (new ≡ old + 1)) ⊎ ((item : Filed) × IsRead s item × FaultAfter ss f (old + cond (has_symbol s) 1 0) new)
+
+-- likewise the stabs of the unit of a span
+abbrev pub UnitFaultAfter : List Named → UnitSpan → Fault → ℕ → ℕ → Type 0
+UnitFaultAfter entries span f old new = FaultAfter (stabs_of entries span) f old new
+
+-- likewise those of the units of spans
+abbrev pub SpansFaultAfter : List Named → List UnitSpan → Fault → ℕ → ℕ → Type 0
+SpansFaultAfter entries [] f old new = ⊥
+SpansFaultAfter entries (s ∷ spans) f old new = UnitFaultAfter entries s f old new
+    ⊎ ((unit : Unit) × IsUnitOf entries s unit × SpansFaultAfter entries spans f (old + parsed (stabs_of entries s)) new)

@@ -1,6 +1,6 @@
 //! The joined string of a run of entries.
 
-ghost use Rattle.std.specs.Prelude.{◌≡◌, ◌<◌, ◌^◌, ◌∷◌, ◌++◌, length, IfOk, OnOk};
+ghost use Rattle.std.specs.Prelude.{◌≡◌, ◌<◌, ◌^◌, ◌∷◌, ◌++◌, length, IfOk, IfSome, OnOk};
 ghost use Rattle.unit_outlines.specs.Runs.{joined};
 ghost use Rattle.stab_units.specs.Units.{string_of};
 
@@ -34,6 +34,20 @@ fn run_string(alloc: Global, entry: &Named, behind: &[Named]) -> Result<Text, Me
         push_joined(&mut text, behind)?;
     }
     Ok(text)
+}
+
+/// The string of a stab, where it stands in one entry: the name where the stab carries no symbol, else what the entry has of the joined
+/// string, if no entry goes on with it.
+pub(crate) fn lent_string<'a>(entry: &'a Named, behind: &[Named]) -> Option<&'a [u8]>
+    ensures { IfSome result (λ string. string.now ≡ string_of entry.now behind.now) }
+{
+    if !carries_symbol(entry.kind) {
+        return Some(entry.name.bytes());
+    }
+    if goes_on(entry, behind) {
+        return None;
+    }
+    Some(piece(entry))
 }
 
 /// The string of a stab: the joined one where it carries a symbol, else its name.

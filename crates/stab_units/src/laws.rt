@@ -8,8 +8,8 @@ ghost use Rattle.unit_outlines.specs.declared.outline_types.Marks.TheVariants.{I
 ghost use Rattle.unit_outlines.specs.declared.outline_types.UnitSpan.{UnitSpan};
 ghost use Rattle.stab_units.specs.declared.unit.Unit.{Unit};
 ghost use Rattle.unit_outlines.specs.Outlines.{OutlineFault, units_of};
-ghost use Rattle.stab_units.specs.Units.{AreUnitsOf, IsUnitOf, SpansFault, UnitFault};
-ghost use Rattle.stab_units.specs.ObjectUnits.{AreUnits, UnitsFault};
+ghost use Rattle.stab_units.specs.Units.{AreUnitsOf, IsUnitOf, SpansFault, SpansFaultAfter, UnitFault, UnitFaultAfter};
+ghost use Rattle.stab_units.specs.ObjectUnits.{AreUnits, UnitsFault, UnitsFaultAfter};
 ghost use Rattle.stab_units.specs.Forgetting.{forgotten};
 ghost use Rattle.stab_units.specs.Joining.{AreAlike};
 ghost use Rattle.stab_units.specs.Changing.{Change, changed, LocalsGo, AreSpansChanged};
@@ -17,32 +17,40 @@ ghost use Rattle.stab_units.specs.HeaderUnits.{header_units};
 
 use stab_grammar::one_symbol;
 
-/// A span is that of exactly one unit, or its strings have exactly one first fault.
+/// A span is that of exactly one unit, or its strings have exactly one first fault, up to which exactly one number of steps is taken.
 pub fn one_unit()
     ensures some { (entries : List Named) (span : UnitSpan) → ((unit : Unit) × IsUnitOf entries span unit) ⊎ ((f : Fault) × UnitFault entries span f) }
     ensures one { (entries : List Named) (span : UnitSpan) (u v : Unit) → IsUnitOf entries span u → IsUnitOf entries span v → u ≡ v }
     ensures one_fault { (entries : List Named) (span : UnitSpan) (f g : Fault) → UnitFault entries span f → UnitFault entries span g → f ≡ g }
     ensures not_both { (entries : List Named) (span : UnitSpan) (unit : Unit) (f : Fault) → IsUnitOf entries span unit → UnitFault entries span f → ⊥ }
+    ensures counted { (entries : List Named) (span : UnitSpan) (f : Fault) (old : ℕ) → UnitFault entries span f → (new : ℕ) × UnitFaultAfter entries span f old new }
+    ensures one_count { (entries : List Named) (span : UnitSpan) (f g : Fault) (old m n : ℕ) → UnitFaultAfter entries span f old m → UnitFaultAfter entries span g old n → m ≡ n }
 {
     one_symbol();
 }
 
-/// Spans are those of exactly one list of units, or their strings have exactly one first fault.
+/// Spans are those of exactly one list of units, or their strings have exactly one first fault, up to which exactly one number of steps is
+/// taken.
 pub fn one_spans()
     ensures some { (entries : List Named) (spans : List UnitSpan) → ((units : List Unit) × AreUnitsOf entries spans units) ⊎ ((f : Fault) × SpansFault entries spans f) }
     ensures one { (entries : List Named) (spans : List UnitSpan) (us vs : List Unit) → AreUnitsOf entries spans us → AreUnitsOf entries spans vs → us ≡ vs }
     ensures one_fault { (entries : List Named) (spans : List UnitSpan) (f g : Fault) → SpansFault entries spans f → SpansFault entries spans g → f ≡ g }
     ensures not_both { (entries : List Named) (spans : List UnitSpan) (units : List Unit) (f : Fault) → AreUnitsOf entries spans units → SpansFault entries spans f → ⊥ }
+    ensures counted { (entries : List Named) (spans : List UnitSpan) (f : Fault) (old : ℕ) → SpansFault entries spans f → (new : ℕ) × SpansFaultAfter entries spans f old new }
+    ensures one_count { (entries : List Named) (spans : List UnitSpan) (f g : Fault) (old m n : ℕ) → SpansFaultAfter entries spans f old m → SpansFaultAfter entries spans g old n → m ≡ n }
 {
     one_symbol();
 }
 
-/// The entries of an object either are exactly one list of units, or have exactly one fault that is reported.
+/// The entries of an object either are exactly one list of units, or have exactly one fault that is reported, up to which exactly one number
+/// of steps is taken.
 pub fn one_units()
     ensures some { (text_end : ℕ) (entries : List Named) → ((units : List Unit) × AreUnits text_end entries units) ⊎ ((f : Fault) × UnitsFault text_end entries f) }
     ensures one { (text_end : ℕ) (entries : List Named) (us vs : List Unit) → AreUnits text_end entries us → AreUnits text_end entries vs → us ≡ vs }
     ensures one_fault { (text_end : ℕ) (entries : List Named) (f g : Fault) → UnitsFault text_end entries f → UnitsFault text_end entries g → f ≡ g }
     ensures not_both { (text_end : ℕ) (entries : List Named) (units : List Unit) (f : Fault) → AreUnits text_end entries units → UnitsFault text_end entries f → ⊥ }
+    ensures counted { (text_end : ℕ) (entries : List Named) (f : Fault) (old : ℕ) → UnitsFault text_end entries f → (new : ℕ) × UnitsFaultAfter text_end entries f old new }
+    ensures one_count { (text_end : ℕ) (entries : List Named) (f g : Fault) (old m n : ℕ) → UnitsFaultAfter text_end entries f old m → UnitsFaultAfter text_end entries g old n → m ≡ n }
 {
     one_symbol();
 }

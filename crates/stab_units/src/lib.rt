@@ -21,6 +21,6 @@ pub use symbols::is_type;
 pub use unit::{HeaderFile, Item, ItemText, Unit};
 pub use unit_outlines::{
     HEADER_LIMIT, HeaderMark, Link, Marks, Nest, Nesting, STRING_LIMIT, SourceMark, Stack,
-    UnitSpan, closing_law, few_spans, goes_on, is_header, is_plain, limits_are, one_outline,
-    outline, piece,
+    UnitSpan, closing_law, few_spans, file_law, goes_on, is_header, is_plain, limits_are,
+    one_outline, outline, piece,
 };

@@ -11,10 +11,10 @@ ghost use Rattle.unit_outlines.specs.EntryWords.{next};
 ghost use Rattle.unit_outlines.specs.Runs.{goes, link_at};
 ghost use Rattle.unit_outlines.specs.Marks as marks;
 ghost use Rattle.stab_units.specs.Units as spec;
-ghost use Rattle.stab_units.specs.Units.{FirstFault, HasFaultOf, IsTextOf, Stab, begun, body_at, item_of, parsed, spells, stabs_from, string_of};
+ghost use Rattle.stab_units.specs.Units.{FaultAfter, HasFaultOf, IsTextOf, Stab, begun, body_at, item_of, parsed, spells, stabs_from, string_of};
 ghost use Rattle.stab_units.specs.ReadingWalk.{HasRead, HasTaken, blank, with_symbol, with_text};
 
-use crate::joined::stab_string;
+use crate::joined::{lent_string, stab_string};
 use crate::symbols::is_type;
 use crate::unit::{HeaderFile, Item, ItemText};
 use nlist_codec::Named;
@@ -37,10 +37,10 @@ pub(crate) struct Reader {
 
 // ---- one stab
 
-fn is_empty(text: &Text) -> bool
+fn is_empty(text: &[u8]) -> bool
     ensures { result ≡ words.is_empty text.now }
 {
-    text.bytes().is_empty()
+    text.is_empty()
 }
 
 // Whether an entry begins a stab, where the one before it goes on with it or not.
@@ -55,17 +55,20 @@ fn read_text<L: Ledger>(
     alloc: Global,
     carries: bool,
     place: u64,
-    string: Text,
+    string: &[u8],
     steps: &mut Steps<L>,
 ) -> Result<ItemText, Refused>
-    ensures found { IfOk result (λ text. IsTextOf carries string text) }
-    ensures refused { (f : Fault) → result ≡ Err (Refused.At f) → HasFaultOf carries string place f }
-    ensures ticks { IfOk result (λ text. steps.new ≡ steps.old + cond (spells carries string) 1 0) }
+    ensures found { IfOk result (λ text. IsTextOf carries string.now text) }
+    ensures refused { (f : Fault) → result ≡ Err (Refused.At f) → HasFaultOf carries string.now place f }
+    ensures ticks { steps.new ≡ steps.old + cond (spells carries string.now) 1 0 }
 {
-    if !carries || is_empty(&string) {
-        return Ok(ItemText::Raw(string));
+    if !carries || is_empty(string) {
+        return match Text::of(alloc, string) {
+            Ok(text) => Ok(ItemText::Raw(text)),
+            Err(_) => Err(Refused::Memory),
+        };
     }
-    match parse(alloc, string.bytes(), steps) {
+    match parse(alloc, string, steps) {
         Ok(symbol) => Ok(ItemText::Symbol(symbol)),
         Err(Refused::Memory) => Err(Refused::Memory),
         Err(Refused::At(fault)) => Err(Refused::At(Fault {
@@ -88,9 +91,14 @@ fn read_stab<L: Ledger>(
     ensures found { IfOk result (λ text. IsTextOf (table.carries_symbol entry.now.kind) (string_of entry.now behind.now) text) }
     ensures refused { (f : Fault) → result ≡ Err (Refused.At f) → HasFaultOf (table.carries_symbol entry.now.kind) (string_of entry.now behind.now) place f }
     ensures ticks { IfOk result (λ text. steps.new ≡ steps.old + cond (spells (table.carries_symbol entry.now.kind) (string_of entry.now behind.now)) 1 0) }
+    ensures stopped { (f : Fault) → result ≡ Err (Refused.At f) → steps.new ≡ steps.old + 1 }
 {
+    let carries = carries_symbol(entry.kind);
+    if let Some(string) = lent_string(entry, behind) {
+        return read_text(alloc, carries, place, string, steps);
+    }
     match stab_string(alloc, entry, behind) {
-        Ok(string) => read_text(alloc, carries_symbol(entry.kind), place, string, steps),
+        Ok(string) => read_text(alloc, carries, place, string.bytes(), steps),
         Err(_) => Err(Refused::Memory),
     }
 }
@@ -176,7 +184,7 @@ fn take_stab<L: Ledger>(
 ) -> Result<(), Refused>
     requires { length behind.now < 2 ^ 32 }
     ensures found { OnOk result (HasTaken (begun begins entry.now place file behind.now) files.old files.new body.old body.new) }
-    ensures refused { (f : Fault) → result ≡ Err (Refused.At f) → FirstFault (begun begins entry.now place file behind.now) f }
+    ensures stopped { (f : Fault) → result ≡ Err (Refused.At f) → FaultAfter (begun begins entry.now place file behind.now) f steps.old steps.new }
     ensures ticks { OnOk result (steps.new ≡ steps.old + parsed (begun begins entry.now place file behind.now)) }
 {
     if !begins {
@@ -220,7 +228,7 @@ impl Reader {
         requires headers { self.old.nest.headers < 2 ^ 32 }
         requires inside { entry.now.kind ≢ N_SO }
         ensures found { OnOk result ((all : List Stab) (names : List (List ℕ)) (start : ℕ) → HasRead all names start place (entry.now ∷ behind.now) self.old steps.old → HasRead all names start (place + 1) behind.now self.new steps.new) }
-        ensures refused { (f : Fault) → result ≡ Err (Refused.At f) → (all : List Stab) (names : List (List ℕ)) (start : ℕ) → HasRead all names start place (entry.now ∷ behind.now) self.old steps.old → FirstFault all f }
+        ensures stopped { (f : Fault) → result ≡ Err (Refused.At f) → (all : List Stab) (names : List (List ℕ)) (start : ℕ) → HasRead all names start place (entry.now ∷ behind.now) self.old steps.old → FaultAfter all f start steps.new }
         ensures bound { OnOk result (self.new.nest.headers ≤ self.old.nest.headers + 1) }
     {
         let begins = begins_stab(entry.kind, self.going);

@@ -4,9 +4,9 @@ ghost use Rattle.st_base.specs.declared.fault.Refused.{Refused};
 ghost use Rattle.unit_outlines.specs.declared.outline_types.UnitSpan.{UnitSpan as SomeSpan};
 ghost use Rattle.stab_units.specs.declared.unit.Unit.{Unit as SomeUnit};
 ghost use Rattle.unit_outlines.specs.Outlines.{IsOutlined};
-ghost use Rattle.stab_units.specs.Units.{AreUnitsOf, FirstFault, IsUnitOf, MakesUnit, SpansFault, Stab, UnitFault, names_of, parsed, parsed_in, stabs_from, stabs_of};
+ghost use Rattle.stab_units.specs.Units.{AreUnitsOf, FaultAfter, IsUnitOf, MakesUnit, SpansFault, SpansFaultAfter, Stab, UnitFault, UnitFaultAfter, names_of, parsed, parsed_in, stabs_from, stabs_of};
 ghost use Rattle.stab_units.specs.ReadingWalk.{HasRead, HasReadAll, blank};
-ghost use Rattle.stab_units.specs.ObjectUnits.{AreUnits, UnitsFault, strings_in};
+ghost use Rattle.stab_units.specs.ObjectUnits.{AreUnits, UnitsFault, UnitsFaultAfter, strings_in};
 
 use crate::reader::Reader;
 use crate::unit::{HeaderFile, Unit};
@@ -53,7 +53,7 @@ fn read_inside<L: Ledger>(
     requires place { first + length rest.now < 2 ^ 63 }
     requires headers { reader.old.nest.headers ≡ 0 }
     ensures found { OnOk result ((all : List Stab) (names : List (List ℕ)) (start : ℕ) → HasRead all names start first rest.now reader.old steps.old → HasReadAll all names start reader.new steps.new) }
-    ensures refused { (f : Fault) → result ≡ Err (Refused.At f) → (all : List Stab) (names : List (List ℕ)) (start : ℕ) → HasRead all names start first rest.now reader.old steps.old → FirstFault all f }
+    ensures stopped { (f : Fault) → result ≡ Err (Refused.At f) → (all : List Stab) (names : List (List ℕ)) (start : ℕ) → HasRead all names start first rest.now reader.old steps.old → FaultAfter all f start steps.new }
 {
     let mut place = first;
     for (at, entry) in rest.iter().enumerate() {
@@ -93,7 +93,7 @@ fn unit_behind<L: Ledger>(
     requires few { length rest.now < 2 ^ 32 }
     requires place { span.now.first < 2 ^ 32 }
     ensures found { IfOk result (λ unit. MakesUnit (stabs_from [] (span.now.first + 1) rest.now) span.now unit) }
-    ensures refused { (f : Fault) → result ≡ Err (Refused.At f) → FirstFault (stabs_from [] (span.now.first + 1) rest.now) f }
+    ensures stopped { (f : Fault) → result ≡ Err (Refused.At f) → FaultAfter (stabs_from [] (span.now.first + 1) rest.now) f steps.old steps.new }
     ensures ticks { IfOk result (λ unit. steps.new ≡ steps.old + parsed (stabs_from [] (span.now.first + 1) rest.now)) }
 {
     let Ok(files) = blank_files(alloc, span) else {
@@ -119,7 +119,7 @@ fn unit_at<L: Ledger>(
     requires few { length entries.now < 2 ^ 32 }
     requires within { span.now.first < length entries.now }
     ensures found { IfOk result (λ unit. IsUnitOf entries.now span.now unit) }
-    ensures refused { (f : Fault) → result ≡ Err (Refused.At f) → UnitFault entries.now span.now f }
+    ensures stopped { (f : Fault) → result ≡ Err (Refused.At f) → UnitFaultAfter entries.now span.now f steps.old steps.new }
     ensures ticks { IfOk result (λ unit. steps.new ≡ steps.old + parsed (stabs_of entries.now span.now)) }
 {
     let behind = span.first as usize + 1;
@@ -131,8 +131,8 @@ fn unit_at<L: Ledger>(
 /// Each stab is read once: a joined string that is to spell a symbol is parsed, all others stand as they are. The unit is refused
 /// with the fault of the first string that spells no symbol, `BYTE`, `END` or `DEEP`: the place is the number of the first entry
 /// of its run, within the place in the string. The file of an excluded header has no symbols. One step is taken for each string
-/// that is parsed, that is for each that is not empty and whose stab carries a symbol. Takes memory for the unit; out of memory is
-/// its own answer. After "The stabs debug format".
+/// that is parsed, that is for each that is not empty and whose stab carries a symbol; where a string is refused, one for each up to
+/// and with it. Takes memory for the unit; out of memory is its own answer. After "The stabs debug format".
 pub fn read_unit<L: Ledger>(
     alloc: Global,
     entries: &List<Named>,
@@ -143,6 +143,7 @@ pub fn read_unit<L: Ledger>(
     requires outlined { IsOutlined entries.now outline.now }
     ensures found { IfOk result (λ unit. IsUnitOf entries.now outline.now unit) }
     ensures refused { (f : Fault) → result ≡ Err (Refused.At f) → UnitFault entries.now outline.now f }
+    ensures stopped { (f : Fault) → result ≡ Err (Refused.At f) → UnitFaultAfter entries.now outline.now f steps.old steps.new }
     ensures ticks { IfOk result (λ unit. steps.new ≡ steps.old + parsed (stabs_of entries.now outline.now)) }
 {
     unit_at(alloc, entries.items(), outline, steps)
@@ -161,7 +162,7 @@ fn push_unit<L: Ledger>(
     requires few { length entries.now < 2 ^ 32 }
     requires outlined { IsOutlined entries.now span.now }
     ensures found { OnOk result ((unit : SomeUnit) × IsUnitOf entries.now span.now unit × (units.new ≡ units.old ++ unit ∷ [])) }
-    ensures refused { (f : Fault) → result ≡ Err (Refused.At f) → UnitFault entries.now span.now f }
+    ensures stopped { (f : Fault) → result ≡ Err (Refused.At f) → UnitFaultAfter entries.now span.now f steps.old steps.new }
     ensures ticks { OnOk result (steps.new ≡ steps.old + parsed (stabs_of entries.now span.now)) }
 {
     match read_unit(alloc, entries, span, steps) {
@@ -174,7 +175,8 @@ fn push_unit<L: Ledger>(
 }
 
 /// The units of spans that `outline` gave for these entries, in order, each as by `read_unit`. Refused with the fault of the first that has
-/// one. One step is taken for each string that is parsed. Takes memory for the units; out of memory is its own answer.
+/// one. One step is taken for each string that is parsed, and where one is refused, for each up to and with it. Takes memory for the
+/// units; out of memory is its own answer.
 pub fn read_spans<L: Ledger>(
     alloc: Global,
     entries: &List<Named>,
@@ -185,6 +187,7 @@ pub fn read_spans<L: Ledger>(
     requires outlined { (number : ℕ) (span : SomeSpan) → slice_get spans.now number ≡ Some span → IsOutlined entries.now span }
     ensures found { IfOk result (λ units. AreUnitsOf entries.now spans.now units) }
     ensures refused { (f : Fault) → result ≡ Err (Refused.At f) → SpansFault entries.now spans.now f }
+    ensures stopped { (f : Fault) → result ≡ Err (Refused.At f) → SpansFaultAfter entries.now spans.now f steps.old steps.new }
     ensures ticks { IfOk result (λ units. steps.new ≡ steps.old + parsed_in entries.now spans.now) }
 {
     let mut units = List::new(alloc);
@@ -200,8 +203,8 @@ pub fn read_spans<L: Ledger>(
 /// The units of the entries of an object, where text ends at `text_end`: its outline, then each unit.
 ///
 /// Refused with the fault of the outline, else with the fault of the first string that spells no symbol, as in `outline` and
-/// `read_unit`. One step is taken for each string that is parsed. Takes memory for the units; out of memory is its own answer.
-/// After "The stabs debug format".
+/// `read_unit`. One step is taken for each string that is parsed: where the outline is refused none, and where a string is refused one
+/// for each up to and with it. Takes memory for the units; out of memory is its own answer. After "The stabs debug format".
 pub fn units<L: Ledger>(
     alloc: Global,
     entries: &List<Named>,
@@ -211,6 +214,7 @@ pub fn units<L: Ledger>(
     requires { length entries.now < 2 ^ 32 }
     ensures found { IfOk result (λ units. AreUnits text_end entries.now units) }
     ensures refused { (f : Fault) → result ≡ Err (Refused.At f) → UnitsFault text_end entries.now f }
+    ensures stopped { (f : Fault) → result ≡ Err (Refused.At f) → UnitsFaultAfter text_end entries.now f steps.old steps.new }
     ensures ticks { IfOk result (λ units. steps.new ≡ steps.old + strings_in text_end entries.now) }
 {
     match outline(alloc, entries, text_end, Marks::Object) {

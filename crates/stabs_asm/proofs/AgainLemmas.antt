@@ -10,7 +10,7 @@ use Rattle.nlist_codec.specs.declared.entry.Entry.{Entry}
 use Rattle.aout_object.specs.Making.{made, make_checks, kinds_checks, addresses_check, size_check}
 use Rattle.aout_object.specs.Objects.{Contents, ObjectFits, IsAccepted, all_named, named_of, file_of}
 use Rattle.aout_object.specs.declared.parts.Parts.{Parts}
-use Rattle.asm_objects.specs.Making.{object_by}
+use Rattle.asm_objects.specs.SourceMaking.{object_by}
 use Rattle.stabs_asm.specs.Assembling.{assembled}
 use Rattle.stabs_asm.specs.Listing.{HoldsBytes, IsAssembledAgain}
 use Rattle.stabs_asm.proofs.ReadBackLemmas.{is_listed}

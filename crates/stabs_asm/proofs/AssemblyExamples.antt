@@ -1,11 +1,11 @@
 -- Worked sources: what they assemble to, by hand.
-use Rattle.std.proofs.Common.{◌≡◌, ℕ, true, false, List, [], ◌∷◌, ◌++◌, Option, Some, None, Result, Ok, Err, refl}
+use Rattle.std.proofs.Common.{◌≡◌, ℕ, true, false, List, [], ◌∷◌, ◌++◌, Some, Result, Ok, Err, refl}
 use Rattle.std.specs.Prelude.{codes}
 use Rattle.st_base.specs.Faults.{fault_at}
 use Rattle.st_base.specs.declared.order.Order.TheVariants.{Little, Big}
-use Rattle.asm_statements.specs.Lines.{read_source}
+use Rattle.asm_statements.specs.SourceLines.{read_source}
 use Rattle.asm_objects.specs.Meaning.{first_fault_of}
-use Rattle.asm_objects.specs.Making.{parts_of, entries_of}
+use Rattle.asm_objects.specs.SourceMaking.{parts_of, entries_of}
 use Rattle.stabs_asm.specs.Assembling.{assembled}
 use Rattle.asm_statements.specs.declared.statement.Statement.{Statement}
 

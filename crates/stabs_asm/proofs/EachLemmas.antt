@@ -7,7 +7,7 @@ use Rattle.nlist_codec.specs.declared.named.Named.{Named}
 use Rattle.reloc.specs.declared.reloc.Reloc.{Reloc}
 use Rattle.aout_object.specs.Objects.{IsReloc}
 use Rattle.asm_objects.specs.Layout.{each, after, moved, start, grown_in}
-use Rattle.asm_statements.specs.Lines.{at_line}
+use Rattle.asm_statements.specs.SourceLines.{at_line}
 use Rattle.stabs_asm.specs.Listing.{cut_rows, rows_of}
 use Rattle.asm_statements.specs.declared.statement.Part.{Part}
 use Rattle.asm_statements.specs.declared.statement.Part.TheVariants as part

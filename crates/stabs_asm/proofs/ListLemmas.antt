@@ -10,7 +10,7 @@ use Rattle.asm_statements.specs.Tokens.{Token, tokens, with_token}
 use Rattle.asm_statements.specs.Tokens.Token.{Word, Str, Mark}
 use Rattle.asm_statements.specs.Operands.{◌>>=◌, number_of, limit, sum_of, plain_of, pieces}
 use Rattle.asm_statements.specs.Directives.{fields, stab_with}
-use Rattle.asm_statements.specs.Lines.{line_of, statements_of}
+use Rattle.asm_statements.specs.SourceLines.{line_of, statements_of}
 use Rattle.asm_objects.specs.Meaning.{has_no_zero}
 use Rattle.stabs_asm.specs.Listing.{hex_byte, hex_word, bytes_on, byte_line, numbers_of, stabs_line, stabn_line, entry_line, line_for, rel_line, part_word, flags_of}
 use Rattle.asm_statements.specs.declared.statement.Part.{Part}

@@ -6,10 +6,11 @@ use Rattle.st_base.specs.ByteOrder.{is_big}
 use Rattle.nlist_codec.specs.declared.named.Named.{Named}
 use Rattle.reloc.specs.declared.reloc.Reloc.{Reloc}
 use Rattle.aout_object.specs.Objects.{IsReloc}
-use Rattle.asm_objects.specs.Names.{with_word}
+use Rattle.std.specs.Str.{bytes_eq}
+use Rattle.st_base.specs.FirstUses.{used}
 use Rattle.asm_objects.specs.Layout.{each, after, moved, start, end_of, table_of, grown_in, listed, entry_word, machine_word, bss_size, last}
 use Rattle.asm_objects.specs.Meaning.{bytes_in, if_in, relocs_in, reloc_part, entries_in, undefined_of, outer, written}
-use Rattle.asm_objects.specs.Making.{parts_of, entries_of}
+use Rattle.asm_objects.specs.SourceMaking.{parts_of, entries_of}
 use Rattle.stabs_asm.specs.Listing.{flags_of}
 use Rattle.asm_statements.specs.declared.statement.Part.{Part}
 use Rattle.asm_statements.specs.declared.statement.Part.TheVariants as part
@@ -157,7 +158,7 @@ named_given t o fits =
 
 -- no undefined names
 outer_given : (t : Table) (o : Listed) → ListedFits o → undefined_of t (listed_statements o) ≡ []
-outer_given t o fits = ap (fold with_word []) (sym (constant (listed_statements o) start) ∙ given_none (λ p. outer t) o says fits)
+outer_given t o fits = ap (fold (used bytes_eq) []) (sym (constant (listed_statements o) start) ∙ given_none (λ p. outer t) o says fits)
   where
     constant : (ss : List Statement) (p : Places) → each (λ p. outer t) p ss ≡ flat_map (λ s. outer t s.what) ss
     constant [] p = refl

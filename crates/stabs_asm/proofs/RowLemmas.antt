@@ -11,7 +11,7 @@ use Rattle.aout_object.specs.declared.parts.Parts.{Parts}
 use Rattle.aout_object.specs.Objects.{IsReloc}
 use Rattle.asm_statements.specs.Tokens.{in_word, is_within}
 use Rattle.asm_statements.specs.Operands.{limit}
-use Rattle.asm_statements.specs.Lines.{line_of, lines_of, read_lines, read_source, at_line}
+use Rattle.asm_statements.specs.SourceLines.{line_of, lines_of, read_lines, read_source, at_line}
 use Rattle.stabs_asm.specs.Listing.{hex_byte, hex_word, bytes_on, byte_line, numbers_of, entry_line, line_for, text_of, escaped, rel_line, part_word, flags_of, cut_rows, rows_of, lines_for}
 use Rattle.asm_statements.specs.declared.statement.Part.{Part}
 use Rattle.asm_statements.specs.declared.statement.Part.TheVariants as part

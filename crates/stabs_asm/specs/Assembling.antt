@@ -5,7 +5,7 @@ use Rattle.st_base.specs.declared.fault.Fault.{Fault}
 use Rattle.st_base.specs.declared.fault.TheConstants.{LINE_SYNTAX}
 use Rattle.st_base.specs.declared.order.Order.{Order}
 use Rattle.aout_object.specs.Objects.{Contents}
-use Rattle.asm_objects.specs.Making.{object_of}
+use Rattle.asm_objects.specs.SourceMaking.{object_of}
 use Rattle.asm_statements.specs.declared.statement.Statement.{Statement}
 
 -- what is assembled of a source that is read so: the fault of its first line that does not parse, else what its statements make

@@ -10,9 +10,9 @@ use Rattle.aout_object.specs.Making.{made, size_check}
 use Rattle.aout_object.specs.Objects.{file_of, Contents, named_of}
 use Rattle.aout_object.specs.declared.parts.Parts.{Parts}
 use Rattle.asm_statements.specs.Tokens.{is_within}
-use Rattle.asm_statements.specs.Lines.{read_source}
+use Rattle.asm_statements.specs.SourceLines.{read_source}
 use Rattle.asm_objects.specs.Meaning.{first_fault_of}
-use Rattle.asm_objects.specs.Making.{parts_of, entries_of}
+use Rattle.asm_objects.specs.SourceMaking.{parts_of, entries_of}
 use Rattle.stabs_asm.specs.Assembling.{assembled}
 use Rattle.asm_statements.specs.declared.statement.Part.{Part}
 use Rattle.asm_statements.specs.declared.statement.Part.TheVariants as part

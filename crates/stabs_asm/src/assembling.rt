@@ -1,5 +1,5 @@
 ghost use Rattle.aout_object.specs.Decoding.{Gives};
-ghost use Rattle.asm_statements.specs.Lines as lines;
+ghost use Rattle.asm_statements.specs.SourceLines as lines;
 ghost use Rattle.stabs_asm.specs.Assembling.{assembled};
 
 use aout_object::Object;

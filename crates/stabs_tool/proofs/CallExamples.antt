@@ -7,7 +7,7 @@ use Rattle.command_line.specs.declared.command.Command.{Command}
 use Rattle.command_line.specs.declared.command.Command.TheVariants as commands
 use Rattle.file_commands.specs.declared.outcome.TheConstants.{DONE, REFUSED, ABSENT, READ_FAULT}
 use Rattle.command_line.specs.Commands.{inputs_of, most_of}
-use Rattle.stabs_tool.specs.Calls.{CommandCalls}
+use Rattle.stabs_tool.specs.RunCalls.{CommandCalls}
 use Rattle.std.proofs.lemmas.Bool.{eqb-false}
 
 abbrev a : List ℕ

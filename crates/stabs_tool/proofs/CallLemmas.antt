@@ -22,12 +22,12 @@ use Rattle.file_commands.specs.declared.outcome.Content.{Content}
 use Rattle.file_commands.specs.declared.outcome.Outcome.{Outcome}
 use Rattle.file_commands.specs.declared.outcome.TheConstants.{DONE, USAGE, REFUSED, LIST_REFUSED, ABSENT, READ_FAULT, WRITE_FAULT, NO_MEMORY, LIMIT}
 use Rattle.file_commands.specs.Outcomes.{usage, absent, read_fault, limit, write_fault_text}
-use Rattle.file_commands.specs.Causes.{Gained}
+use Rattle.file_commands.specs.RunCauses.{Gained}
 use Rattle.file_commands.specs.Inputs.{HasCalled, LoadsNames, loaded_names, IsPlaced, name_at}
-use Rattle.file_commands.specs.Replies.{RepliesTo}
+use Rattle.file_commands.specs.QueryOutcomes.{RepliesTo}
 use Rattle.file_commands.proofs.LineLemmas.{Prints, prints_usage, prints_absent, prints_read_fault, prints_limit}
 use Rattle.file_commands.proofs.PlainLemmas.{IsPlain, unnamed, answers_plain}
-use Rattle.stabs_tool.specs.Calls.{IsAnswered, IsReportedLast, CommandCalls, Calls}
+use Rattle.stabs_tool.specs.RunCalls.{IsAnswered, IsReportedLast, CommandCalls, Calls}
 use Rattle.stabs_tool.specs.Carrying.{CallsStore, Follows}
 use Rattle.stabs_tool.specs.Deciding.{IsLast, LoadedFor, DecidesCalls}
 use Rattle.stabs_tool.proofs.Promises.{print_good}

@@ -14,10 +14,10 @@ use Rattle.command_line.specs.declared.limits.TheConstants.{MOST_NAMES}
 use Rattle.file_commands.specs.declared.outcome.Outcome.{Outcome}
 use Rattle.command_line.specs.Commands.{inputs_of, most_of, IsRead, IsWritten, IsWrong}
 use Rattle.file_commands.specs.Outcomes.{usage, absent, read_fault, limit, is_status}
-use Rattle.file_commands.specs.Causes.{FilesSeen}
+use Rattle.file_commands.specs.RunCauses.{FilesSeen}
 use Rattle.file_commands.specs.Inputs.{loaded_inputs, HasCause, IsFailed, IsPlaced, name_at}
 use Rattle.stabs_tool.specs.Deciding.{Decided}
-use Rattle.file_commands.specs.Replies.{RepliesTo, Means}
+use Rattle.file_commands.specs.QueryOutcomes.{RepliesTo, Means}
 use Rattle.file_commands.proofs.LineLemmas.{prints_usage, prints_absent, prints_read_fault, prints_limit}
 use Rattle.file_commands.proofs.PlainLemmas.{IsPlain, unnamed, plain_limit, answers_plain}
 

@@ -13,8 +13,8 @@ use Rattle.file_commands.specs.declared.outcome.Content.{Content}
 use Rattle.file_commands.specs.declared.outcome.Outcome.{Outcome}
 use Rattle.file_commands.specs.declared.outcome.TheConstants.{DONE, READ_FAULT, WRITE_FAULT, NO_MEMORY}
 use Rattle.file_commands.specs.Outcomes.{contents_after}
-use Rattle.file_commands.specs.Causes.{FilesSeen}
-use Rattle.file_commands.specs.Replies.{Means, IsOutcome}
+use Rattle.file_commands.specs.RunCauses.{FilesSeen}
+use Rattle.file_commands.specs.QueryOutcomes.{Means, IsOutcome}
 use Rattle.stabs_tool.specs.Promise.{Promise}
 use Rattle.file_commands.specs.ListImages.{IsAcceptedList, IsImageFile, IsAskedOf}
 use Rattle.stabs_tool.specs.Headline.{StoresImage, TellsImage, AsksToLink, AsksOfList, IsStopped, Headline}

@@ -3,5 +3,6 @@ pub mod Decisions
 pub mod Promises
 pub mod HeadlineLemmas
 pub mod StoreLemmas
+mod HeadlineExamples
 mod PromiseExamples
 mod CallExamples

@@ -5,9 +5,9 @@ use Rattle.std.specs.FinMap.{insert, empty}
 use Rattle.outside.specs.Causes.{Contents}
 use Rattle.command_line.specs.Commands.{asked, IsRead, IsWritten, IsWrong}
 use Rattle.file_commands.specs.Outcomes.{usage}
-use Rattle.file_commands.specs.Causes.{seen, Gained}
+use Rattle.file_commands.specs.RunCauses.{seen, Gained}
 use Rattle.stabs_tool.specs.Promise.{Promise}
-use Rattle.file_commands.specs.Replies.{IsOutcome}
+use Rattle.file_commands.specs.QueryOutcomes.{IsOutcome}
 use Rattle.stabs_tool.proofs.Promises.{promise_of_nothing}
 
 -- the files hold `a`, of three bytes

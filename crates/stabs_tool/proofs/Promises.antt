@@ -17,7 +17,7 @@ use Rattle.file_commands.specs.declared.outcome.Content.{Content}
 use Rattle.file_commands.specs.declared.outcome.Outcome.{Outcome}
 use Rattle.file_commands.specs.declared.outcome.TheConstants.{DONE, USAGE, ABSENT, READ_FAULT, WRITE_FAULT, NO_MEMORY}
 use Rattle.file_commands.specs.Outcomes.{usage, absent, read_fault, write_fault_text, contents_after, is_status}
-use Rattle.file_commands.specs.Causes.{FilesSeen, Lacks, Gained, GainedFront, GainedOneFront}
+use Rattle.file_commands.specs.RunCauses.{FilesSeen, Lacks, Gained, GainedFront, GainedOneFront}
 use Rattle.stabs_tool.specs.Carrying.{Carried, Follows, Keeps, Prints, status_after}
 use Rattle.stabs_tool.specs.Deciding.{Decided}
 use Rattle.stabs_tool.specs.Promise.{IsDone, Promise}

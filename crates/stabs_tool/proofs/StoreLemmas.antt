@@ -10,19 +10,19 @@ use Rattle.aout_object.specs.Objects.{Contents as Object}
 use Rattle.aout_link.specs.Sources.{Source}
 use Rattle.bincl_match.specs.declared.mode.Mode.{Mode}
 use Rattle.stabs_asm.specs.Assembling.{assembled}
-use Rattle.asm_statements.specs.Lines.{read_source}
+use Rattle.asm_statements.specs.SourceLines.{read_source}
 use Rattle.command_line.specs.declared.command.Command.{Command}
 use Rattle.command_line.specs.declared.command.Command.TheVariants as commands
 use Rattle.command_line.specs.Commands.{output_of}
-use Rattle.command_line.specs.Words.{first}
+use Rattle.command_line.specs.CommandWords.{first}
 use Rattle.file_commands.specs.declared.outcome.Content.{Content}
 use Rattle.file_commands.specs.declared.outcome.Outcome.{Outcome}
 use Rattle.file_commands.specs.declared.outcome.TheConstants.{DONE, REFUSED, LIST_REFUSED, LIMIT}
 use Rattle.file_commands.specs.Outcomes.{limit, refused, list_refused, list_refused_at}
 use Rattle.file_commands.specs.Inputs.{name_at}
-use Rattle.file_commands.specs.Objects.{OnEach}
-use Rattle.file_commands.specs.Linking.{entry_name, is_about_name, list_outcome, LinksSources, LinksObjects}
-use Rattle.file_commands.specs.Replies.{kept_object, Answers}
+use Rattle.file_commands.specs.InputObjects.{OnEach}
+use Rattle.file_commands.specs.LinkOutcomes.{entry_name, is_about_name, list_outcome, LinksSources, LinksObjects}
+use Rattle.file_commands.specs.QueryOutcomes.{kept_object, Answers}
 use Rattle.file_commands.proofs.LineLemmas.{Prints, prints_limit, prints_refused, prints_list, prints_list_at}
 use Rattle.file_commands.proofs.PlainLemmas.{answers_plain}
 

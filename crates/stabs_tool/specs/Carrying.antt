@@ -11,7 +11,7 @@ use Rattle.file_commands.specs.declared.outcome.Content.{Content}
 use Rattle.file_commands.specs.declared.outcome.Outcome.{Outcome}
 use Rattle.file_commands.specs.declared.outcome.TheConstants.{WRITE_FAULT, NO_MEMORY}
 use Rattle.file_commands.specs.Outcomes.{write_fault_text}
-use Rattle.file_commands.specs.Causes.{FilesSeen}
+use Rattle.file_commands.specs.RunCauses.{FilesSeen}
 
 -- the status behind a put that answers so
 abbrev pub status_after : ℕ → Put → ℕ

@@ -10,9 +10,9 @@ use Rattle.command_line.specs.Commands.{inputs_of, output_of, most_of}
 use Rattle.file_commands.specs.declared.outcome.Outcome.{Outcome}
 use Rattle.file_commands.specs.declared.outcome.TheConstants.{DONE, USAGE, ABSENT, READ_FAULT, WRITE_FAULT, NO_MEMORY}
 use Rattle.file_commands.specs.Outcomes.{usage, absent, read_fault, is_status}
-use Rattle.file_commands.specs.Causes.{FilesSeen, Lacks}
+use Rattle.file_commands.specs.RunCauses.{FilesSeen, Lacks}
 use Rattle.file_commands.specs.Inputs.{HasCalled, name_at}
-use Rattle.stabs_tool.specs.Calls.{IsAnswered}
+use Rattle.stabs_tool.specs.RunCalls.{IsAnswered}
 
 -- the outcome o was decided on, the files being f before it and g after it; `Means`, `Reads`, `Writes` and `Wrong` are as in `Promise`
 pub record Decided (Means : Contents → Outcome → Type 0) (Reads Writes : List ℕ → Type 0) (Wrong : ℕ → Type 0) (f g : FilesSeen) (o : Outcome) : Type 0 where

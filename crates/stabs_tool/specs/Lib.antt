@@ -1,4 +1,4 @@
-pub mod Calls
+pub mod RunCalls
 pub mod Carrying
 pub mod Deciding
 pub mod Promise

@@ -6,7 +6,7 @@ use Rattle.outside.specs.Causes.{Contents, Rose}
 use Rattle.file_commands.specs.declared.outcome.Outcome.{Outcome}
 use Rattle.file_commands.specs.declared.outcome.TheConstants.{DONE, USAGE, ABSENT, READ_FAULT, WRITE_FAULT, NO_MEMORY}
 use Rattle.file_commands.specs.Outcomes.{usage, absent, read_fault, write_fault_text, contents_after, is_status}
-use Rattle.file_commands.specs.Causes.{FilesSeen, Lacks, Gained, GainedFront, GainedOneFront}
+use Rattle.file_commands.specs.RunCauses.{FilesSeen, Lacks, Gained, GainedFront, GainedOneFront}
 
 -- an outcome was carried out: its status was answered, its text printed, and its content stored over the contents `m`
 abbrev pub IsDone : (Contents → Outcome → Type 0) → Contents → FilesSeen → Option (List ℕ) → Option (List ℕ) → ℕ → Type 0

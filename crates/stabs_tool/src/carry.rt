@@ -1,7 +1,7 @@
 //! Carrying out an outcome, whatever the command: what is to be stored is stored, and then all is printed at once.
 
 ghost use Rattle.std.specs.Prelude.{◌≡◌, codes};
-ghost use Rattle.file_commands.specs.Causes.{seen};
+ghost use Rattle.file_commands.specs.RunCauses.{seen};
 ghost use Rattle.stabs_tool.specs.Carrying.{Prints, Carried, Keeps, CallsStore};
 
 use file_commands::{Content, NO_MEMORY, Outcome, WRITE_FAULT};

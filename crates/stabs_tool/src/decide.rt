@@ -1,11 +1,11 @@
 //! What the words come to, before anything is stored or printed.
 
 ghost use Rattle.std.specs.Prelude.{◌≡◌, ◌≤◌, IfOk};
-ghost use Rattle.file_commands.specs.Causes.{seen};
+ghost use Rattle.file_commands.specs.RunCauses.{seen};
 ghost use Rattle.command_line.specs.Commands.{IsRead, IsWritten, IsWrong};
 ghost use Rattle.command_line.specs.Commands as commands;
 ghost use Rattle.stabs_tool.specs.Deciding.{Decided, DecidesCalls};
-ghost use Rattle.file_commands.specs.Replies.{Means};
+ghost use Rattle.file_commands.specs.QueryOutcomes.{Means};
 
 use command_line::{Asked, Command, inputs_of, most_of, read_words};
 use file_commands::{Outcome, load_all, reply, usage};

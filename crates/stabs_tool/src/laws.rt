@@ -1,9 +1,9 @@
 //! What a run comes to over files and a sink that never fail.
 
 ghost use Rattle.std.specs.Prelude.{◌≡◌, ◌⊎◌, Some, None};
-ghost use Rattle.file_commands.specs.Causes.{seen};
+ghost use Rattle.file_commands.specs.RunCauses.{seen};
 ghost use Rattle.stabs_tool.specs.Promise.{IsDone};
-ghost use Rattle.file_commands.specs.Replies.{IsOutcome};
+ghost use Rattle.file_commands.specs.QueryOutcomes.{IsOutcome};
 
 use crate::top::run;
 use file_commands::NO_MEMORY;

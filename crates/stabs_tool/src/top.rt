@@ -1,9 +1,9 @@
-ghost use Rattle.file_commands.specs.Causes.{seen};
+ghost use Rattle.file_commands.specs.RunCauses.{seen};
 ghost use Rattle.command_line.specs.Commands.{asked, IsRead, IsWritten, IsWrong};
-ghost use Rattle.stabs_tool.specs.Calls.{Calls};
+ghost use Rattle.stabs_tool.specs.RunCalls.{Calls};
 ghost use Rattle.stabs_tool.specs.Headline.{Headline};
 ghost use Rattle.stabs_tool.specs.Promise.{Promise};
-ghost use Rattle.file_commands.specs.Replies.{IsOutcome};
+ghost use Rattle.file_commands.specs.QueryOutcomes.{IsOutcome};
 
 use crate::carry::carry_out;
 use crate::decide::decide;

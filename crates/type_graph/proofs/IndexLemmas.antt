@@ -1,10 +1,11 @@
 -- A map of definitions: noting first the definitions that stand in the own file of their key, and then those of all files, gives the
 -- definition of each key.
 use Rattle.std.proofs.Common.{◌≡◌, ℕ, ◌+◌, ◌<◌, ◌≤◌, length, take, get_or, Bool, true, false, List, [], ◌∷◌, ◌++◌, refl, sym, ap, subst, ◌∙◌, ⊎_elim, cond, append-nil}
-use Rattle.std.specs.Prelude.{◌&&◌, ◌==◌, Option, Some, None, Result, Ok, Err, OnOk, flat_map, ⊤}
+use Rattle.std.specs.Prelude.{◌&&◌, ◌||◌, ◌==◌, not, Option, Some, None, Result, Ok, Err, OnOk, flat_map, ⊤}
 use Rattle.std.proofs.lemmas.List.{take_more, take_all}
+use Rattle.std.proofs.lemmas.List.Folds.{list_any-append}
 use Rattle.std.proofs.lemmas.Grind.{flat_map-append}
-use Rattle.std.specs.BTreeMap.{BTreeMap}
+use Rattle.indexmap.specs.IndexMap.{IndexMap}
 use Rattle.std.specs.Borrow.{Bor}
 use Rattle.st_base.specs.declared.fault.Memory.{Memory}
 use Rattle.stab_symbols.specs.declared.tree.Key.{Key}
@@ -18,7 +19,7 @@ use Rattle.stab_units.specs.declared.unit.Unit.{Unit}
 use Rattle.type_graph.specs.declared.indexing.Noting.{Noting}
 use Rattle.type_graph.specs.Types.{definitions_of, file_symbols}
 use Rattle.type_graph.specs.Searches.{counts, noted, noted_all, file_definitions}
-use Rattle.type_graph.specs.Indexes.{body_in, is_noted, HasNoted, Notes, HasDefinitions}
+use Rattle.type_graph.specs.TypeMaps.{body_in, is_noted, has_stray, HasNoted, Notes, HasDefinitions}
 use Rattle.type_graph.proofs.KeyLemmas.{which, same_key-decides}
 use Rattle.type_graph.proofs.SearchLemmas.{noted-append, noted-first}
 use Rattle.type_graph.proofs.OrderLemmas.{own_and_all, first-in_order}
@@ -53,14 +54,26 @@ noted-here only key known d is = sym (ap (λ (b : Bool). cond b (noted key known
 
 -- ---- many definitions
 
+or_false : (b : Bool) → (b || false) ≡ b
+or_false true = refl
+or_false false = refl
+
+or_assoc : (a b c : Bool) → ((a || b) || c) ≡ (a || (b || c))
+or_assoc true b c = refl
+or_assoc false b c = refl
+
 -- noting none
 pub noted-none : (old : Noting) → HasNoted old [] old
-noted-none old = record { only = refl; bodies = λ key. sym (both (is_noted old.only key) (body_in old.bodies key)) }
+noted-none old = record { only = refl; strays = sym (or_false old.strays); bodies = λ key. sym (both (is_noted old.only key) (body_in old.bodies key)) }
 
 -- noting two lists, one after the other
 pub noted-then : (old mid new : Noting) (ds es : List Definition) → HasNoted old ds mid → HasNoted mid es new → HasNoted old (ds ++ es) new
 noted-then old mid new ds es before after = record {
   only = after.only ∙ before.only;
+  strays = after.strays ∙ ap (λ (b : Bool). b || has_stray mid.only es) before.strays
+      ∙ ap (λ (o : Option ℕ). (old.strays || has_stray old.only ds) || has_stray o es) before.only
+      ∙ or_assoc old.strays (has_stray old.only ds) (has_stray old.only es)
+      ∙ ap (λ (b : Bool). old.strays || b) (sym (list_any-append (λ (d : Definition). not (is_noted old.only d.key)) ds es));
   bodies = λ key. in_turn key (is_noted old.only key) (body_in old.bodies key) (body_in mid.bodies key) (body_in new.bodies key) (before.bodies key)
       (after.bodies key ∙ ap (λ (o : Option ℕ). cond (is_noted o key) (noted_all key (body_in mid.bodies key) es) (body_in mid.bodies key)) before.only);
 } where
@@ -125,7 +138,7 @@ own-more files at f key first before after within is so_far more = ⊎_elim
 -- ---- what a finished map says
 
 -- the own definitions of each key and then all give its definition
-pub made-definitions : (bodies : BTreeMap Key (Bor TypeTree)) (unit : Unit)
+pub made-definitions : {S : Type 0} → (bodies : IndexMap Key (Bor TypeTree) S) (unit : Unit)
     → ((key : Key) → body_in bodies key ≡ noted_all key (noted_all key None (definitions_of (file_symbols unit key.file))) (file_definitions unit.files)) → HasDefinitions unit bodies
 made-definitions bodies unit says key =
     says key ∙ sym (noted-append key None (definitions_of (file_symbols unit key.file)) (file_definitions unit.files)) ∙ noted-first key (own_and_all unit key) ∙ first-in_order unit key

@@ -12,10 +12,9 @@ use Rattle.stab_symbols.specs.declared.tree.Num.{Num}
 use Rattle.stab_symbols.specs.declared.tree.Key.{Key}
 use Rattle.stab_symbols.specs.Keys.{key_of}
 use Rattle.stab_symbols.specs.TypeWalks.{Visited}
-use Rattle.stab_symbols.specs.Surface.{same_key, key_order}
+use Rattle.stab_symbols.specs.Surface.{same_key}
 use Rattle.type_graph.specs.KeyLists.{has, added, joined, firsts, Adds}
-use Rattle.type_graph.proofs.KeyLemmas.{which, same_key-decides, same_key-laws, is_eq-keys}
-use Rattle.std.specs.BTreeMap.{is_at}
+use Rattle.type_graph.proofs.KeyLemmas.{which, same_key-decides, same_key-laws}
 
 -- ---- one test or another
 
@@ -74,15 +73,6 @@ pub has-joined : (keys more : List Key) (key : Key) → has (joined keys more) k
 has-joined keys [] key = sym (or_false (has keys key))
 has-joined keys (new ∷ more) key = has-joined (added keys new) more key ∙ ap (λ (b : Bool). b || has more key) (has-added keys new key)
     ∙ or_assoc (has keys key) (same_key key new) (has more key)
-
--- a set that took a new key in and gave it back is as it was
-pub given_back : (keys : List Key) (new : Key) → has keys new ≡ false → (key : Key)
-    → cond (is_at (key_order new) key) false (cond (is_at (key_order new) key) true (has keys key)) ≡ has keys key
-given_back keys new absent key = ⊎_elim
-    (λ same. let here : has keys key ≡ false = ap (λ (k : Key). has keys k) (sym ((same_key-decides new key).0 (sym (is_eq-keys new key) ∙ same))) ∙ absent in
-    ap (λ (b : Bool). cond b false (cond b true (has keys key))) same ∙ sym here)
-    (λ apart. ap (λ (b : Bool). cond b false (cond b true (has keys key))) apart)
-    (which (is_at (key_order new) key))
 
 -- ---- no repeats
 

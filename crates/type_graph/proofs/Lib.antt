@@ -7,5 +7,5 @@ pub mod SearchLemmas
 pub mod FrontLemmas
 pub mod IndexLemmas
 pub mod NamesLemmas
-pub mod PlaceLemmas
+pub mod StrayLemmas
 mod Examples

@@ -9,7 +9,7 @@ use Rattle.stab_symbols.specs.declared.tree.Key.{Key}
 use Rattle.stab_symbols.specs.declared.tree.Symbol.{Symbol}
 use Rattle.stab_units.specs.declared.unit.HeaderFile.{HeaderFile}
 use Rattle.type_graph.specs.Types.{is_name, symbols_of}
-use Rattle.type_graph.specs.Indexes.{named_in}
+use Rattle.type_graph.specs.TypeMaps.{named_in}
 use Rattle.type_graph.proofs.KeyLemmas.{which}
 use Rattle.type_graph.proofs.FrontLemmas.{front_symbols, front-none, front-here, front-other}
 

@@ -1,12 +1,11 @@
 -- Lists in which each key stands once, as they grow: a key that stands there already is not put there again. This project's own.
 use Rattle.std.specs.Prelude.{◌≡◌, Bool, if◌then◌else◌, List, [], ◌∷◌, ◌++◌, Result, OnOk}
 use Rattle.std.specs.Set.{is_member}
-use Rattle.std.specs.BTreeSet.{BTreeSet, contains}
 use Rattle.st_base.specs.declared.fault.Memory.{Memory}
 use Rattle.stab_symbols.specs.declared.tree.Key.{Key}
 use Rattle.stab_symbols.specs.declared.tree.Num.{Num}
 use Rattle.stab_symbols.specs.Keys.{key_of}
-use Rattle.stab_symbols.specs.Surface.{same_key, key_order}
+use Rattle.stab_symbols.specs.Surface.{same_key}
 
 -- the key stands in the list
 abbrev pub has : List Key → Key → Bool
@@ -28,9 +27,3 @@ firsts keys = joined [] keys
 -- adding the key of a number, unless out of memory
 abbrev pub Adds : List Key → Num → List Key → Result (Unit {0}) Memory → Type 0
 Adds old num new result = OnOk result (new ≡ added old (key_of num))
-
--- ---- the same keys in a set
-
--- the set has the keys of the list and no others
-abbrev pub SameKeys : List Key → BTreeSet Key → Type 0
-SameKeys keys set = (key : Key) → contains key_order set key ≡ has keys key

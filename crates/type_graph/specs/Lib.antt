@@ -2,6 +2,6 @@ pub mod Types
 pub mod Searches
 pub mod KeyLists
 pub mod Listings
-pub mod Indexes
+pub mod TypeMaps
 pub mod Sorts
 pub mod Worlds

@@ -1,24 +1,24 @@
 //! The maps of a unit by key: of the definitions, and of the symbols that name types.
 
-ghost use Rattle.std.specs.Prelude.{◌≡◌, [], ◌∷◌, slice_get, IfOk, OnOk};
+ghost use Rattle.std.specs.Prelude.{◌≡◌, [], ◌∷◌, ◌||◌, not, slice_get, IfOk, OnOk};
 ghost use Rattle.stab_symbols.specs.declared.tree.Key.{Key as KeyValue};
-ghost use Rattle.type_graph.specs.Indexes as spec;
-ghost use Rattle.type_graph.specs.Indexes.{HasDefinitions, HasNames, HasNoted, body_in, named_in, symbol_in};
+ghost use Rattle.type_graph.specs.TypeMaps as spec;
+ghost use Rattle.type_graph.specs.TypeMaps.{HasDefinitions, HasNames, HasNoted, body_in, named_in, own_only, symbol_in};
 ghost use Rattle.type_graph.specs.Searches.{file_definitions, noted, noted_all};
 ghost use Rattle.type_graph.specs.Types.{definitions_of, symbols_in};
 
 use crate::definitions::counts;
 use crate::symbols::{is_type_symbol, outer_key};
+use indexmap::IndexMap;
 use st_base::Memory;
 use stab_grammar::{DefinitionVisitor, Key, Symbol, TypeTree, visit_definitions};
 use stab_units::{HeaderFile, Unit};
 use std::alloc::Global;
-use std::collections::BTreeMap;
 
 // ---- definitions
 
 fn note<'a>(
-    bodies: &mut BTreeMap<Key, &'a TypeTree>,
+    bodies: &mut IndexMap<Key, &'a TypeTree>,
     key: Key,
     body: &'a TypeTree,
 ) -> Result<(), Memory>
@@ -33,9 +33,11 @@ fn note<'a>(
 // The map as it grows by one definition after another.
 #[derive(Drop)]
 struct Noting<'a> {
-    bodies: BTreeMap<Key, &'a TypeTree>,
+    bodies: IndexMap<Key, &'a TypeTree>,
     // The file whose keys are noted; `None` for those of all files.
     only: Option<usize>,
+    // Whether a definition was left out since its key is of another file.
+    strays: bool,
 }
 
 fn is_noted(only: Option<usize>, key: Key) -> bool
@@ -48,7 +50,7 @@ fn is_noted(only: Option<usize>, key: Key) -> bool
 }
 
 impl<'a> DefinitionVisitor<&'a TypeTree> for Noting<'a> {
-    ghost use Rattle.type_graph.specs.Indexes.{Notes};
+    ghost use Rattle.type_graph.specs.TypeMaps.{Notes};
 
     type Stop = Memory;
 
@@ -56,6 +58,7 @@ impl<'a> DefinitionVisitor<&'a TypeTree> for Noting<'a> {
 
     fn visit(&mut self, key: Key, body: &'a TypeTree) -> Result<(), Memory> {
         if !is_noted(self.only, key) {
+            self.strays = true;
             return Ok(());
         }
         note(&mut self.bodies, key, body)
@@ -71,9 +74,10 @@ fn note_symbols<'a>(symbols: &'a [Symbol], noting: &mut Noting<'a>) -> Result<()
     Ok(())
 }
 
-// The definitions that stand in the own file of their key.
+// The definitions that stand in the own file of their key. `strays` says whether there are others.
 fn note_own<'a>(files: &'a [HeaderFile], noting: &mut Noting<'a>) -> Result<(), Memory>
-    ensures { OnOk result ((k : KeyValue) → body_in noting.new.bodies k ≡ noted_all k (body_in noting.old.bodies k) (definitions_of (symbols_in (slice_get files.now k.file)))) }
+    ensures own { OnOk result ((k : KeyValue) → body_in noting.new.bodies k ≡ noted_all k (body_in noting.old.bodies k) (definitions_of (symbols_in (slice_get files.now k.file)))) }
+    ensures strays { OnOk result (noting.new.strays ≡ (noting.old.strays || not (own_only 0 files.now))) }
 {
     for (number, file) in files.iter().enumerate() {
         noting.only = Some(number);
@@ -93,26 +97,29 @@ fn note_all<'a>(files: &'a [HeaderFile], noting: &mut Noting<'a>) -> Result<(), 
 }
 
 /// The definitions of a unit by key, each as `definition` finds it. Refused only when out of memory.
-pub fn definitions<'a>(alloc: Global, unit: &'a Unit) -> Result<BTreeMap<Key, &'a TypeTree>, Memory>
+pub fn definitions<'a>(alloc: Global, unit: &'a Unit) -> Result<IndexMap<Key, &'a TypeTree>, Memory>
     ensures { IfOk result (HasDefinitions unit.now) }
 {
     let files = unit.files.items();
     let mut noting = Noting {
-        bodies: BTreeMap::new(alloc),
+        bodies: IndexMap::new(alloc),
         only: None,
+        strays: false,
     };
     note_own(files, &mut noting)?;
+    if !noting.strays {
+        return Ok(noting.bodies);
+    }
     noting.only = None;
     note_all(files, &mut noting)?;
-    let Noting { bodies, only: _ } = noting;
-    Ok(bodies)
+    Ok(noting.bodies)
 }
 
 // ---- names
 
 // A symbol of a file counts where its number is of that file and had no name before.
 fn note_name<'a>(
-    names: &mut BTreeMap<Key, &'a Symbol>,
+    names: &mut IndexMap<Key, &'a Symbol>,
     file: usize,
     symbol: &'a Symbol,
 ) -> Result<(), Memory>
@@ -133,7 +140,7 @@ fn note_name<'a>(
 }
 
 fn note_names<'a>(
-    names: &mut BTreeMap<Key, &'a Symbol>,
+    names: &mut IndexMap<Key, &'a Symbol>,
     file: usize,
     symbols: &'a [Symbol],
 ) -> Result<(), Memory>
@@ -146,10 +153,10 @@ fn note_names<'a>(
 }
 
 /// The symbols of a unit that name types, by key, each as `type_name` finds it. Refused only when out of memory.
-pub fn names<'a>(alloc: Global, unit: &'a Unit) -> Result<BTreeMap<Key, &'a Symbol>, Memory>
+pub fn names<'a>(alloc: Global, unit: &'a Unit) -> Result<IndexMap<Key, &'a Symbol>, Memory>
     ensures { IfOk result (HasNames unit.now) }
 {
-    let mut names = BTreeMap::new(alloc);
+    let mut names = IndexMap::new(alloc);
     let files = unit.files.items();
     for (number, file) in files.iter().enumerate() {
         note_names(&mut names, number, file.symbols.items())?;

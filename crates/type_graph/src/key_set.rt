@@ -1,29 +1,25 @@
-ghost use Rattle.std.specs.Prelude.{◌≡◌, ◌<◌, [], OnOk, Some, length, slice_get};
+ghost use Rattle.std.specs.Prelude.{◌≡◌, ◌<◌, [], IfOk, OnOk, Some, length, slice_get};
 ghost use Rattle.type_graph.specs.KeyLists.{added};
 
+use indexmap::IndexSet;
 use st_base::{List, Memory};
 use stab_grammar::{Key, Num, NumberVisitor, key_of};
 use std::alloc::Global;
-use std::collections::BTreeSet;
 use std::marker::Model;
 
 /// Keys in the order in which they came, each once.
 #[derive(Drop)]
 pub struct KeySet {
-    keys: List<Key>,
-    seen: BTreeSet<Key>,
+    keys: IndexSet<Key>,
 }
 
 impl Model for KeySet {
     ghost use Rattle.std.specs.Prelude.{List};
     ghost use Rattle.stab_symbols.specs.declared.tree.Key.{Key};
-    ghost use Rattle.type_graph.specs.KeyLists.{SameKeys};
 
     ghost Value = { List Key };
 
-    ghost view = { λ s. s.keys };
-
-    ghost invariant = { λ s. SameKeys s.keys s.seen };
+    ghost view = { λ s. s.keys.keys };
 }
 
 impl KeySet {
@@ -32,8 +28,7 @@ impl KeySet {
         ensures { result ≡ [] }
     {
         KeySet {
-            keys: List::new(alloc),
-            seen: BTreeSet::new(alloc),
+            keys: IndexSet::new(alloc),
         }
     }
 
@@ -41,7 +36,21 @@ impl KeySet {
     pub fn len(&self) -> usize
         ensures { result ≡ length self.now }
     {
-        self.keys.len()
+        self.items().len()
+    }
+
+    /// The keys in order.
+    pub fn items(&self) -> &[Key]
+        ensures { result.now ≡ self.now }
+    {
+        self.keys.as_slice()
+    }
+
+    /// The keys as a set that tells the place of each.
+    pub fn places(&self) -> &IndexSet<Key>
+        ensures { result.now.keys ≡ self.now }
+    {
+        &self.keys
     }
 
     /// The key at a place counted from 0.
@@ -49,29 +58,26 @@ impl KeySet {
         requires { at < length self.now }
         ensures { slice_get self.now at ≡ Some result }
     {
-        self.keys.items()[at]
+        self.items()[at]
     }
 
     /// Puts a key at the end, unless it is there already.
     pub fn add(&mut self, key: Key) -> Result<(), Memory>
         ensures { OnOk result (self.new ≡ added self.old key) }
     {
-        if !self.seen.insert(key)? {
-            return Ok(());
-        }
-        if self.keys.push(key).is_err() {
-            self.seen.remove(&key);
-            return Err(Memory);
-        }
+        self.keys.insert(key)?;
         Ok(())
     }
 
-    /// The keys alone.
-    pub fn into_keys(self) -> List<Key>
-        ensures { result ≡ self }
+    /// The keys alone, copied.
+    pub fn to_list(&self, alloc: Global) -> Result<List<Key>, Memory>
+        ensures { IfOk result (λ keys. keys ≡ self.now) }
     {
-        let KeySet { keys, seen: _ } = self;
-        keys
+        let mut keys = List::new(alloc);
+        for key in self.items() {
+            keys.push(*key)?;
+        }
+        Ok(keys)
     }
 }
 

@@ -7,7 +7,6 @@
 
 mod definitions;
 mod indexing;
-mod key_places;
 mod key_set;
 mod listings;
 mod names;
@@ -16,7 +15,7 @@ mod type_index;
 mod world;
 
 pub use definitions::definition;
-pub use key_places::places;
+pub use key_set::KeySet;
 pub use listings::{KeyList, a_listing, listed, listing, one_listing};
 pub use names::{find_tag, find_typedef, type_name};
 pub use symbols::file_symbols;

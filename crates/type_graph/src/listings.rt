@@ -28,9 +28,9 @@ fn add_body(found: &mut KeySet, body: Option<&TypeTree>) -> Result<(), Memory>
     }
 }
 
-/// The listing of a key in a unit that is indexed. Refused only when out of memory.
-pub fn listed(alloc: Global, index: &TypeIndex<'_>, key: Key) -> Result<KeyList, Memory>
-    ensures { IfOk result (λ l. IsListing index.now key l.keys) }
+/// The listing of a key in a unit that is indexed, as a set that tells the place of each of its keys. Refused only when out of memory.
+pub fn listed(alloc: Global, index: &TypeIndex<'_>, key: Key) -> Result<KeySet, Memory>
+    ensures { IfOk result (IsListing index.now key) }
 {
     let mut found = KeySet::new(alloc);
     found.add(key)?;
@@ -40,9 +40,7 @@ pub fn listed(alloc: Global, index: &TypeIndex<'_>, key: Key) -> Result<KeyList,
         add_body(&mut found, index.definition(next))?;
         done += 1;
     }
-    Ok(KeyList {
-        keys: found.into_keys(),
-    })
+    Ok(found)
 }
 
 /// The listing of a key: the key, and then every key on the surface of the definition of an earlier one, each once, in the
@@ -53,7 +51,10 @@ pub fn listing(alloc: Global, unit: &Unit, key: Key) -> Result<KeyList, Memory>
     ensures { IfOk result (λ l. IsListing unit.now key l.keys) }
 {
     let index = TypeIndex::new(alloc, unit)?;
-    listed(alloc, &index, key)
+    let found = listed(alloc, &index, key)?;
+    Ok(KeyList {
+        keys: found.to_list(alloc)?,
+    })
 }
 
 /// A key has one listing in a unit.

@@ -3,26 +3,26 @@ ghost use Rattle.std.specs.Option.{option_copied};
 ghost use Rattle.type_graph.specs.Types.{definition_of, name_of};
 
 use crate::indexing::{definitions, names};
+use indexmap::IndexMap;
 use st_base::Memory;
 use stab_grammar::{Key, Symbol, TypeTree};
 use stab_units::Unit;
 use std::alloc::Global;
-use std::collections::BTreeMap;
 use std::marker::Model;
 
 /// A unit with its definitions and its names of types by key, for whoever asks for many of them. Contracts see the unit.
 #[derive(Drop)]
 pub struct TypeIndex<'a> {
     unit: &'a Unit,
-    definitions: BTreeMap<Key, &'a TypeTree>,
-    names: BTreeMap<Key, &'a Symbol>,
+    definitions: IndexMap<Key, &'a TypeTree>,
+    names: IndexMap<Key, &'a Symbol>,
 }
 
 impl<'a> Model for TypeIndex<'a> {
     ghost use Rattle.std.specs.Coded.{codes};
     ghost use Rattle.stab_symbols.specs.contracts.tree.TypeTree as tree;
     ghost use Rattle.stab_units.specs.declared.unit.Unit.{Unit};
-    ghost use Rattle.type_graph.specs.Indexes.{HasDefinitions, HasNames};
+    ghost use Rattle.type_graph.specs.TypeMaps.{HasDefinitions, HasNames};
 
     ghost Value = { Unit };
 

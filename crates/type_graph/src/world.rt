@@ -1,6 +1,6 @@
 ghost use Rattle.std.specs.Prelude.{◌≡◌, ◌+◌, ◌<◌, ◌^◌, length, Err, IfOk};
 ghost use Rattle.st_base.specs.declared.fault.Fault.{Fault};
-ghost use Rattle.stab_units.specs.ObjectUnits.{UnitsFault, strings_in};
+ghost use Rattle.stab_units.specs.ObjectUnits.{UnitsFault, UnitsFaultAfter, strings_in};
 ghost use Rattle.type_graph.specs.Worlds as spec;
 
 use nlist_codec::{Named, defines_name};
@@ -57,8 +57,9 @@ pub fn externals(alloc: Global, entries: &List<Named>) -> Result<List<External>,
 /// The world of an object: the units of its entries, where text ends at this address, and its externals.
 ///
 /// Refused as `units` refuses: at the first fault of the outline, or else at the first fault of a string, with the number of its
-/// entry and the place in the string. Takes memory for all symbols; out of memory is an answer of its own. After "The stabs debug
-/// format" and a.out(5); the faults are this project's own.
+/// entry and the place in the string. One step is taken for each string that is parsed: where the outline is refused none, and where
+/// a string is refused one for each up to and with it. Takes memory for all symbols; out of memory is an answer of its own. After "The
+/// stabs debug format" and a.out(5); the faults are this project's own.
 pub fn world_of<L: Ledger>(
     alloc: Global,
     entries: &List<Named>,
@@ -68,6 +69,8 @@ pub fn world_of<L: Ledger>(
     requires { length entries.now < 2 ^ 32 }
     ensures found { IfOk result (spec.IsWorldOf text_end entries.now) }
     ensures refused { (f : Fault) → result ≡ Err (Refused.At f) → UnitsFault text_end entries.now f }
+    // Where the outline is refused no string is parsed, and where a string is, those before it and it.
+    ensures stopped { (f : Fault) → result ≡ Err (Refused.At f) → UnitsFaultAfter text_end entries.now f steps.old steps.new }
     // Each string is parsed once.
     ensures ticks { IfOk result (λ world. steps.new ≡ steps.old + strings_in text_end entries.now) }
 {

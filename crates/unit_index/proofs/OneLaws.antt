@@ -7,11 +7,12 @@ use Rattle.unit_outlines.specs.declared.outline_types.Marks.TheVariants.{Image}
 use Rattle.unit_outlines.specs.declared.outline_types.UnitSpan.{UnitSpan}
 use Rattle.stab_units.specs.declared.unit.Unit.{Unit}
 use Rattle.unit_outlines.specs.Outlines.{OutlineFault, units_of}
-use Rattle.stab_units.specs.Units.{AreUnitsOf, SpansFault}
+use Rattle.stab_units.specs.Units.{AreUnitsOf, SpansFault, SpansFaultAfter}
+use Rattle.stab_units.proofs.StopLemmas.{spans_count}
 use Rattle.type_graph.specs.declared.world.World.{World}
 use Rattle.type_graph.specs.Worlds.{externals_of}
 use Rattle.unit_index.specs.Owners.{rows_of, index_fault}
-use Rattle.unit_index.specs.Expanding.{IndexFault, expanded, IsExpanded, ExpandFault}
+use Rattle.unit_index.specs.Expanding.{IndexFault, expanded, IsExpanded, ExpandFault, ExpandFaultAfter}
 
 differ : (f : Fault) → None ≡ Some f → ⊥
 differ f e = absurd cc
@@ -85,4 +86,20 @@ module _ (some_index : (t : ℕ) (entries : List Named) → (f : Option Fault) �
   world_not_both t entries world f a h = elim h [
     | inl x ↦ differ f (one_index t entries None (Some f) a.index x)
     | inr x ↦ spans_not_both entries (units_of t entries) a.units f a.are x.1
+  ]
+
+-- ---- steps up to the fault of a world
+
+pub world_count : (t : ℕ) (entries : List Named) (f : Fault) (old : ℕ) → ExpandFault t entries f → (new : ℕ) × ExpandFaultAfter t entries f old new
+world_count t entries f old h = elim h [
+  | inl a ↦ (old, inl (a, refl))
+  | inr b ↦ let more = spans_count entries (units_of t entries) f old b.1 in (more.0, inr (b.0, more.1))
+]
+
+module _ (one_index : (t : ℕ) (entries : List Named) (f g : Option Fault) → IndexFault t entries f → IndexFault t entries g → f ≡ g)
+    (spans_count_one : (entries : List Named) (spans : List UnitSpan) (f g : Fault) (old m n : ℕ) → SpansFaultAfter entries spans f old m → SpansFaultAfter entries spans g old n → m ≡ n) where
+  pub world_count_one : (t : ℕ) (entries : List Named) (f g : Fault) (old m n : ℕ) → ExpandFaultAfter t entries f old m → ExpandFaultAfter t entries g old n → m ≡ n
+  world_count_one t entries f g old m n a b = elim a [
+    | inl x ↦ elim b [ inl y ↦ x.1 ∙ sym y.1 | inr y ↦ absurd (differ f (one_index t entries None (Some f) y.0 x.0)) ]
+    | inr x ↦ elim b [ inl y ↦ absurd (differ g (one_index t entries None (Some g) x.0 y.0)) | inr y ↦ spans_count_one entries (units_of t entries) f g old m n x.1 y.1 ]
   ]

@@ -11,7 +11,7 @@ use Rattle.unit_outlines.specs.declared.outline_types.Marks.TheVariants.{Image}
 use Rattle.stab_units.specs.declared.unit.HeaderFile.{HeaderFile}
 use Rattle.stab_units.specs.declared.unit.Unit.{Unit}
 use Rattle.unit_outlines.specs.Outlines.{OutlineFault, units_of}
-use Rattle.stab_units.specs.Units.{AreUnitsOf, SpansFault}
+use Rattle.stab_units.specs.Units.{AreUnitsOf, SpansFault, SpansFaultAfter}
 use Rattle.type_graph.specs.declared.world.World.{World}
 use Rattle.type_graph.specs.Types.{symbols_in}
 use Rattle.type_graph.specs.Worlds.{externals_of}
@@ -20,8 +20,8 @@ use Rattle.unit_index.specs.Owners.{rows_of, owners_of, index_fault, stands_for,
 
 -- ---- the index of an image
 
--- the fault of an image's headers, where text ends at this address: that of its outline, else that of its first N_EXCL that not exactly
--- one N_BINCL is like; none where each header has one owner
+-- the fault of an image's headers, where text ends at this address: that of its outline, else that of its first N_EXCL whose name
+-- and value no N_BINCL has, or several have; none where each header has one owner
 abbrev pub IndexFault : ℕ → List Named → Option Fault → Type 0
 IndexFault text_end entries None = OutlineFault Image entries None × (index_fault (rows_of (units_of text_end entries)) ≡ None)
 IndexFault text_end entries (Some f) = OutlineFault Image entries (Some f)
@@ -91,3 +91,9 @@ pub record IsExpanded (text_end : ℕ) (entries : List Named) (world : World) : 
 -- the entries of an image have no world, and this fault: that of its headers, else the first one of a string
 abbrev pub ExpandFault : ℕ → List Named → Fault → Type 0
 ExpandFault text_end entries f = IndexFault text_end entries (Some f) ⊎ (IndexFault text_end entries None × SpansFault entries (units_of text_end entries) f)
+
+-- after `old` steps an image is refused with this fault, and there are `new`: no more for that of its headers, else one for each string
+-- that is parsed, up to and with the one that has the fault
+abbrev pub ExpandFaultAfter : ℕ → List Named → Fault → ℕ → ℕ → Type 0
+ExpandFaultAfter text_end entries f old new = (IndexFault text_end entries (Some f) × (new ≡ old))
+    ⊎ (IndexFault text_end entries None × SpansFaultAfter entries (units_of text_end entries) f old new)

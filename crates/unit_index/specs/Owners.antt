@@ -1,5 +1,5 @@
--- For which header range each header of an image stands. An N_EXCL stands for the range that the one N_BINCL of its name and value
--- opens, in whatever unit; an N_BINCL stands for its own. After "The stabs debug format", on include files; that there is to be exactly
+-- The owner of each header of an image: the N_BINCL for whose range it stands. That of an N_EXCL is the one N_BINCL of its name and
+-- value, in whatever unit; an N_BINCL is its own owner. After "The stabs debug format", on include files; that there is to be exactly
 -- one such N_BINCL, and what a number becomes that is carried over into another unit, is this project's own.
 use Rattle.std.specs.Prelude.{ℕ, zero, suc, ◌+◌, List, [], ◌∷◌, ◌++◌, ◌&&◌, not, Bool, cond, map, Option, Some, None, nat_eq}
 use Rattle.std.specs.List.{filter}
@@ -68,7 +68,7 @@ abbrev pub owned_by : Row → Option Row → Owner
 owned_by r None = record { unit = r.unit; file = r.file; owner_unit = 0; owner_file = 0 }
 owned_by r (Some k) = record { unit = r.unit; file = r.file; owner_unit = k.unit; owner_file = k.file }
 
--- an N_BINCL stands for its own range, an N_EXCL for that of the N_BINCL that it is like
+-- an N_BINCL stands for its own range, an N_EXCL for that of the N_BINCL of its name and value
 abbrev pub owner_in : List Row → Row → Owner
 owner_in all r = cond r.excluded (owned_by r (the_one (is_like r) all)) (owned_by r (Some r))
 
@@ -78,7 +78,7 @@ owners_of all = map (owner_in all) all
 
 -- ---- faults
 
--- the fault of an N_EXCL that is like these N_BINCL, or what is reported later
+-- the fault of an N_EXCL whose name and value these N_BINCL have, or what is reported later
 abbrev pub fault_by : Row → List Row → Option Fault → Option Fault
 fault_by r [] later = Some (fault_at NO_HEADER r.place)
 fault_by r (k ∷ []) later = later
@@ -89,7 +89,7 @@ abbrev pub fault_among : List Row → List Row → Option Fault
 fault_among all [] = None
 fault_among all (r ∷ rows) = cond r.excluded (fault_by r (filter (is_like r) all) (fault_among all rows)) (fault_among all rows)
 
--- the fault at the first N_EXCL that not exactly one N_BINCL is like; none where each is like one
+-- the fault at the first N_EXCL whose name and value no N_BINCL has, or several have; none where each has one
 abbrev pub index_fault : List Row → Option Fault
 index_fault all = fault_among all all
 

@@ -4,7 +4,7 @@
 ghost use Rattle.std.specs.Prelude.{◌≡◌, ◌+◌, ◌<◌, ◌^◌, length, Err, IfOk};
 ghost use Rattle.st_base.specs.declared.fault.Fault.{Fault as SomeFault};
 ghost use Rattle.stab_units.specs.ObjectUnits.{strings_in};
-ghost use Rattle.unit_index.specs.Expanding.{IsExpanded, ExpandFault};
+ghost use Rattle.unit_index.specs.Expanding.{IsExpanded, ExpandFault, ExpandFaultAfter};
 ghost use Rattle.unit_index.specs.Filling as filling;
 ghost use Rattle.unit_index.specs.Indexes.{AsMany};
 ghost use Rattle.unit_index.specs.Filling.{units_with, AreFull};
@@ -35,8 +35,9 @@ fn expanded_units(alloc: Global, index: &Index, units: List<Unit>) -> Result<Lis
 ///
 /// A number `(file,number)` that is taken over gets the file that its own unit has for the same range: 0 stays 0, and a file that this
 /// unit does not have, or has twice, becomes 65,536, which no symbol can name. Refused as `Index::build` refuses, else with the
-/// fault of the first string that spells no symbol, as in `read_unit`. One step is taken for each string that is parsed. Takes memory
-/// for the units; out of memory is its own answer. After "The stabs debug format"; the number 65,536 is this project's own.
+/// fault of the first string that spells no symbol, as in `read_unit`. One step is taken for each string that is parsed: where
+/// `Index::build` refuses none, and where a string is refused one for each up to and with it. Takes memory for the units; out of memory
+/// is its own answer. After "The stabs debug format"; the number 65,536 is this project's own.
 pub fn expand<L: Ledger>(
     alloc: Global,
     entries: &List<Named>,
@@ -46,6 +47,7 @@ pub fn expand<L: Ledger>(
     requires { length entries.now < 2 ^ 32 }
     ensures found { IfOk result (IsExpanded text_end entries.now) }
     ensures refused { (f : SomeFault) → result ≡ Err (Refused.At f) → ExpandFault text_end entries.now f }
+    ensures stopped { (f : SomeFault) → result ≡ Err (Refused.At f) → ExpandFaultAfter text_end entries.now f steps.old steps.new }
     ensures ticks { IfOk result (λ world. steps.new ≡ steps.old + strings_in text_end entries.now) }
 {
     let index = match Index::build(alloc, entries, text_end) {

@@ -9,7 +9,7 @@ ghost use Rattle.stab_units.specs.ObjectUnits.{UnitsFault};
 ghost use Rattle.type_graph.specs.declared.world.World.{World};
 ghost use Rattle.type_graph.specs.Worlds.{IsWorldOf};
 ghost use Rattle.unit_index.specs.declared.owner.TheConstants.{NO_FILE};
-ghost use Rattle.unit_index.specs.Expanding.{IndexFault, IsExpanded, ExpandFault};
+ghost use Rattle.unit_index.specs.Expanding.{IndexFault, IsExpanded, ExpandFault, ExpandFaultAfter};
 
 use stab_units::{one_outline, one_spans};
 
@@ -26,12 +26,15 @@ pub fn one_index()
     one_outline();
 }
 
-/// The entries of an image either are exactly one world, or have exactly one fault that is reported.
+/// The entries of an image either are exactly one world, or have exactly one fault that is reported, up to which exactly one number of
+/// steps is taken.
 pub fn one_expansion()
     ensures some { (text_end : ℕ) (entries : List Named) → ((world : World) × IsExpanded text_end entries world) ⊎ ((f : Fault) × ExpandFault text_end entries f) }
     ensures one { (text_end : ℕ) (entries : List Named) (v w : World) → IsExpanded text_end entries v → IsExpanded text_end entries w → v ≡ w }
     ensures one_fault { (text_end : ℕ) (entries : List Named) (f g : Fault) → ExpandFault text_end entries f → ExpandFault text_end entries g → f ≡ g }
     ensures not_both { (text_end : ℕ) (entries : List Named) (world : World) (f : Fault) → IsExpanded text_end entries world → ExpandFault text_end entries f → ⊥ }
+    ensures counted { (text_end : ℕ) (entries : List Named) (f : Fault) (old : ℕ) → ExpandFault text_end entries f → (new : ℕ) × ExpandFaultAfter text_end entries f old new }
+    ensures one_count { (text_end : ℕ) (entries : List Named) (f g : Fault) (old m n : ℕ) → ExpandFaultAfter text_end entries f old m → ExpandFaultAfter text_end entries g old n → m ≡ n }
 {
     one_index();
     one_spans();

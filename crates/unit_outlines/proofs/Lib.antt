@@ -2,6 +2,7 @@ pub mod Examples
 pub mod FirstLemmas
 pub mod NestSweep
 pub mod CountsLaw
+pub mod FileLaw
 pub mod RunSweep
 pub mod PlaceSweep
 pub mod Together

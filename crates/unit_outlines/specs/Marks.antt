@@ -63,6 +63,16 @@ abbrev pub file_in : List Named → ℕ → ℕ
 file_in [] ends = 0
 file_in (e ∷ back) ends = file_step (in_headers e) ends (headers_in (e ∷ back)) (file_in back)
 
+-- going back from an entry, an N_EINCL begins a header range and an N_BINCL ends it
+abbrev pub backwards : Nesting → Nesting
+backwards Opens = Closes
+backwards Closes = Opens
+backwards Parts = Parts
+backwards Other = Other
+
+abbrev pub back_in_headers : Named → Nesting
+back_in_headers e = backwards (in_headers e)
+
 -- ---- what stands before an entry in its list
 
 -- how many headers stand among entries, in any order

@@ -1,12 +1,13 @@
 //! What the definitions of outlines say of any entries.
 
-ghost use Rattle.std.specs.Prelude.{◌≡◌, ◌≤◌, ℕ, List, Option, MatchOption, length};
+ghost use Rattle.std.specs.Prelude.{◌≡◌, ◌≤◌, ◌-◌, ℕ, List, Option, MatchOption, drop, length};
 ghost use Rattle.st_base.specs.declared.fault.Fault.{Fault};
 ghost use Rattle.nlist_codec.specs.declared.named.Named.{Named};
 ghost use Rattle.unit_outlines.specs.declared.limits.TheConstants.{HEADER_LIMIT, STRING_LIMIT};
 ghost use Rattle.unit_outlines.specs.declared.outline_types.Marks.{Marks};
 ghost use Rattle.unit_outlines.specs.Nests.{closing, in_blocks, in_headers};
 ghost use Rattle.unit_outlines.specs.Counts.{ClosesAt, NeverCloses};
+ghost use Rattle.unit_outlines.specs.Marks.{back_in_headers, file_in, headers_in};
 ghost use Rattle.unit_outlines.specs.Outlines.{OutlineFault, units_of};
 
 /// A list of entries either has no fault of an outline, or exactly one that is reported.
@@ -25,6 +26,15 @@ pub fn few_spans()
 pub fn closing_law()
     ensures headers { (es : List Named) (more : ℕ) → MatchOption (closing in_headers es more) (NeverCloses in_headers es more) (ClosesAt in_headers es more) }
     ensures blocks { (es : List Named) (more : ℕ) → MatchOption (closing in_blocks es more) (NeverCloses in_blocks es more) (ClosesAt in_blocks es more) }
+{}
+
+/// The file of an entry by counts: going back from it, the number of the nearest N_BINCL at which as many were met as N_EINCL and one more,
+/// before the N_SO of its unit, where headers are numbered from 1 in the order of their marks; and 0, the file of the unit itself, where there
+/// is no such N_BINCL. `back` is what stands before the entry, nearest first, and `more` is how many N_EINCL were met before. After "The
+/// stabs debug format", on include files.
+pub fn file_law()
+    ensures header { (back : List Named) (more n : ℕ) → ClosesAt back_in_headers back more n → file_in back more ≡ headers_in (drop (n - 1) back) }
+    ensures unit { (back : List Named) (more : ℕ) → NeverCloses back_in_headers back more → file_in back more ≡ 0 }
 {}
 
 /// The limits of units, as numbers: a unit has at most 65,535 headers, and a joined string at most 1,048,576 bytes. This project's own.

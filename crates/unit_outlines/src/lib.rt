@@ -27,7 +27,7 @@ mod spans;
 mod stack;
 
 pub use kinds::{Link, Nesting, SourceMark, goes_on, is_header, is_plain, piece};
-pub use laws::{closing_law, few_spans, limits_are, one_outline};
+pub use laws::{closing_law, few_spans, file_law, limits_are, one_outline};
 pub use limits::{HEADER_LIMIT, STRING_LIMIT};
 pub use nest::Nest;
 pub use outline_types::{HeaderMark, Marks, UnitSpan};

@@ -1,6 +1,6 @@
 use Rattle.std.proofs.Common.{◌≡◌, take}
 use Rattle.aout_link.specs.Answering.{listed, Tells}
-use Rattle.aout_link.specs.Tables.{entries_of, sizes_of, commons_among}
+use Rattle.aout_link.specs.NameTables.{entries_of, sizes_of, commons_among}
 use Rattle.aout_link.proofs.commons.find_commons.Given as goal
 
 abbrev pub invariant-loop-object : goal.invariant-loop-object

@@ -2,7 +2,7 @@ use Rattle.std.proofs.Common.{◌≡◌, ◌∙◌, sym, ap, List, ℕ, false, i
 use Rattle.std.specs.List.{list_any}
 use Rattle.aout_link.specs.declared.definitions.Known.{Known}
 use Rattle.aout_link.specs.Answering.{listed}
-use Rattle.aout_link.specs.Tables.{defines, known_by}
+use Rattle.aout_link.specs.NameTables.{defines, known_by}
 use Rattle.aout_link.proofs.CommonLemmas.{common_note}
 use Rattle.aout_link.proofs.commons.note_commons.Goals as goal
 

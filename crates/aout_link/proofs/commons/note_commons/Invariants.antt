@@ -1,7 +1,7 @@
 use Rattle.std.proofs.Common.{◌≡◌, ◌++◌, List, take}
 use Rattle.nlist_codec.specs.declared.named.Named.{Named}
 use Rattle.aout_link.specs.Answering.{listed, Tells}
-use Rattle.aout_link.specs.Tables.{sizes_of, commons_among}
+use Rattle.aout_link.specs.NameTables.{sizes_of, commons_among}
 use Rattle.aout_link.proofs.commons.note_commons.Given as goal
 
 abbrev pub invariant-loop-entry : goal.invariant-loop-entry

@@ -1,6 +1,6 @@
 use Rattle.std.proofs.Common.{◌≡◌, ◌≤◌, ◌*◌, ◌++◌, take}
 use Rattle.aout_link.specs.Answering.{listed}
-use Rattle.aout_link.specs.Tables.{placed_commons, commons_total}
+use Rattle.aout_link.specs.NameTables.{placed_commons, commons_total}
 use Rattle.aout_link.proofs.commons.place_commons.Given as goal
 
 abbrev pub invariant-loop-at : goal.invariant-loop-at

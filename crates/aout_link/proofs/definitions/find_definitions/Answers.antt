@@ -1,6 +1,6 @@
 use Rattle.std.proofs.Common.{◌∙◌, take}
 use Rattle.aout_link.specs.Answering.{listed}
-use Rattle.aout_link.specs.Tables.{entries_of}
+use Rattle.aout_link.specs.NameTables.{entries_of}
 use Rattle.aout_link.proofs.DefinitionLemmas.{found_err}
 use Rattle.aout_link.proofs.definitions.find_definitions.Goals as goal
 

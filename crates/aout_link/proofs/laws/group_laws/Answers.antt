@@ -1,7 +1,7 @@
 use Rattle.std.proofs.Common.{◌∙◌, ap, append-nil, List, []}
 use Rattle.aout_link.specs.Sources.{Source}
 use Rattle.aout_link.specs.Moves.{moves_after}
-use Rattle.aout_link.specs.Tables.{moved_all}
+use Rattle.aout_link.specs.NameTables.{moved_all}
 use Rattle.aout_link.proofs.GroupLemmas.{in_groups, moves_at_once, entries_at_once, padded_total}
 use Rattle.aout_link.proofs.laws.group_laws.Goals as goal
 

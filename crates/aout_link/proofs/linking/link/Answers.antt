@@ -5,8 +5,8 @@ use Rattle.aout_link.specs.Linking.{IsPlanned, KeepsWorld, image_end}
 use Rattle.aout_link.proofs.linking.link.Goals as goal
 
 -- the entries of the image are those of the plan, merged
-pub returns-in-Ok-make_merged : goal.returns-in-Ok-make_merged
-returns-in-Ok-make_merged g c =
+pub returns-in-Ok-make_merged-clause-links : goal.returns-in-Ok-make_merged-clause-links
+returns-in-Ok-make_merged-clause-links g c =
     let placed = c.in-Ok.plan.placed in
     let made = c.in-Ok-make_merged.ensures in
     record {

@@ -1,6 +1,6 @@
 use Rattle.std.proofs.Common.{◌≡◌, ◌≤◌, ◌++◌, drop, length}
 use Rattle.aout_link.specs.Answering.{texts_from, datas_from, relocs_from}
-use Rattle.aout_link.specs.Tables.{entries_of}
+use Rattle.aout_link.specs.NameTables.{entries_of}
 use Rattle.aout_link.proofs.relocating.place_segments.Given as goal
 
 abbrev pub invariant-loop-at : goal.invariant-loop-at

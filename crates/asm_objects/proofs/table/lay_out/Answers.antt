@@ -1,5 +1,7 @@
 use Rattle.asm_objects.specs.Layout as spec
-use Rattle.asm_objects.specs.Names.{with_first, with_word}
+use Rattle.std.specs.Str.{bytes_eq}
+use Rattle.st_base.specs.FirstUses.{used}
+use Rattle.asm_objects.specs.DefinedNames.{same_name}
 use Rattle.asm_objects.proofs.PlaceLemmas.{drop_item, fold_step, room_step}
 use Rattle.asm_objects.proofs.table.lay_out.Goals as goal
 
@@ -12,8 +14,8 @@ loop-statement-preserved c =
     let was = c.loop-statement.invariant in
     let moves = c.after-places.ensures.value in
     record {
-      names = fold_step with_first spec.defined p q _ _ s c.loop-statement.names c.define.new.names _ items was.names c.in_ok-define.ensures.value moves;
-      globals = fold_step with_word (λ p. spec.global) p q _ _ s c.loop-statement.globals c.note_global.new.globals _ items was.globals c.in_ok-note_global.ensures moves;
+      names = fold_step (used same_name) spec.defined p q _ _ s c.loop-statement.names c.define.new.names _ items was.names c.in_ok-define.ensures.value moves;
+      globals = fold_step (used bytes_eq) (λ p. spec.global) p q _ _ s c.loop-statement.globals c.note_global.new.globals _ items was.globals c.in_ok-note_global.ensures moves;
       end = rw moves (rw items at was.end);
       entry = fold_step spec.last (λ p. spec.entry_word) p q _ _ s c.loop-statement.entry c.entry_after-entry.result _ items was.entry c.entry_after-entry.ensures moves;
       machine = fold_step spec.last (λ p. spec.machine_word) p q _ _ s c.loop-statement.machine c.machine_after-machine.result _ items was.machine c.machine_after-machine.ensures moves;

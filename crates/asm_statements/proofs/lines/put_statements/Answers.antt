@@ -1,5 +1,5 @@
 use Rattle.std.proofs.Common.{ap, ◌∙◌, sym}
-use Rattle.asm_statements.specs.Lines as spec
+use Rattle.asm_statements.specs.SourceLines as spec
 use Rattle.asm_statements.specs.Scanning.{with_whats}
 use Rattle.asm_statements.proofs.LineLemmas.{short_rest, label_next, label_err, puts_through}
 use Rattle.asm_statements.proofs.lines.put_statements.Goals as goal

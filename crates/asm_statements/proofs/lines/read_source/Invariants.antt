@@ -1,5 +1,5 @@
 use Rattle.std.proofs.Common.{◌≡◌, ◌≤◌, ◌+◌, length}
-use Rattle.asm_statements.specs.Lines as spec
+use Rattle.asm_statements.specs.SourceLines as spec
 use Rattle.asm_statements.specs.Scanning.{with_statements}
 use Rattle.asm_statements.proofs.lines.read_source.Given as goal
 

@@ -1,9 +1,9 @@
 use Rattle.std.proofs.Common.{◌≡◌, ◌+◌, ◌<◌, ◌%◌, ◌^◌, false, drop}
 use Rattle.std.specs.Prelude.{sum}
-use Rattle.bincl_match.specs.Sums.{without_files}
+use Rattle.bincl_match.specs.HeaderSums.{without_files}
 use Rattle.bincl_match.proofs.sums.with_bytes.Given as goal
 
--- the sum so far, with the bytes that are left, comes to the whole sum
+-- the sum so far, with the bytes that are left, gives the whole sum
 abbrev pub invariant-loop-byte : goal.invariant-loop-byte
 invariant-loop-byte l = record {
   small : l.total < 2 ^ 32;

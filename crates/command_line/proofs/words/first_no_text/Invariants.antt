@@ -1,5 +1,5 @@
 use Rattle.std.proofs.Common.{◌≡◌, drop}
-use Rattle.command_line.specs.Words as spec
+use Rattle.command_line.specs.CommandWords as spec
 use Rattle.command_line.proofs.words.first_no_text.Given as goal
 
 -- the words from here on have the first that all have

@@ -1,5 +1,5 @@
 use Rattle.std.proofs.Common.{◌≡◌, drop}
-use Rattle.command_line.specs.Words as spec
+use Rattle.command_line.specs.CommandWords as spec
 use Rattle.command_line.proofs.words.objects_end.Given as goal
 
 -- objects end from here on where all do

@@ -1,5 +1,5 @@
 use Rattle.std.proofs.Common.{◌≡◌, drop}
-use Rattle.command_line.specs.Words as spec
+use Rattle.command_line.specs.CommandWords as spec
 use Rattle.command_line.proofs.words.word_of.Given as goal
 
 -- the operand is among the places and words from here on

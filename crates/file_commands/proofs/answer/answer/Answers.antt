@@ -1,6 +1,6 @@
 use Rattle.std.proofs.Common.{rules}
 use Rattle.command_line.specs.declared.command.Command.TheVariants as commands
-use Rattle.file_commands.specs.Replies.{RepliesOnObject, Checks, Dumps}
+use Rattle.file_commands.specs.QueryOutcomes.{RepliesOnObject, Checks, Dumps}
 use Rattle.file_commands.proofs.ReplyLemmas.{by_command, by_link, by_ask}
 use Rattle.file_commands.proofs.answer.answer.Goals as goal
 

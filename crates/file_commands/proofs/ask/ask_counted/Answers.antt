@@ -4,4 +4,4 @@ use Rattle.file_commands.proofs.ask.ask_counted.Goals as goal
 
 -- an image that is linked has a world
 pub ask_image-requires : goal.ask_image-requires
-ask_image-requires g c = has_world Merge 0 _ _ _ c.in-Ok.image c.in-Ok.ensures
+ask_image-requires g c = has_world Merge 0 _ _ _ c.in-Ok.image c.in-Ok.ensures.links

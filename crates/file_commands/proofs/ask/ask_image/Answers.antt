@@ -1,6 +1,6 @@
 use Rattle.std.proofs.Common.{ap, Err}
 use Rattle.aout_object.specs.Objects.{named_of}
-use Rattle.file_commands.specs.Replies.{text_end}
+use Rattle.file_commands.specs.QueryOutcomes.{text_end}
 use Rattle.file_commands.proofs.ask.ask_image.Goals as goal
 
 -- an image that has a world has no fault

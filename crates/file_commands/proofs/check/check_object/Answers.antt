@@ -1,7 +1,7 @@
 use Rattle.std.proofs.Common.{ℕ, List, ap, Err, ◌∙◌}
 use Rattle.file_commands.specs.declared.outcome.TheConstants.{DONE}
 use Rattle.file_commands.specs.Outcomes.{printed}
-use Rattle.file_commands.specs.Replies.{Counts}
+use Rattle.file_commands.specs.QueryOutcomes.{Counts}
 use Rattle.file_commands.proofs.ReplyLemmas.{by_counted, by_world_fault, world_fault}
 use Rattle.file_commands.proofs.check.check_object.Goals as goal
 

@@ -1,4 +1,4 @@
-use Rattle.file_commands.specs.Objects.{IsSource, HasNoUnits}
+use Rattle.file_commands.specs.InputObjects.{IsSource, HasNoUnits}
 use Rattle.file_commands.proofs.EachLemmas.{each_done, each_more, first_more, taken, none_taken, counted_on}
 use Rattle.file_commands.proofs.objects.check_counted.Goals as goal
 

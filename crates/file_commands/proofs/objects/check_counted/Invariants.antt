@@ -2,7 +2,7 @@ use Rattle.std.proofs.Common.{◌≡◌, ◌++◌, ℕ, List, length}
 use Rattle.std.specs.Vec.Iter.{into_iter_items, into_iter_len}
 use Rattle.st_base.specs.declared.fault.Fault.{Fault}
 use Rattle.aout_link.specs.Sources.{Source}
-use Rattle.file_commands.specs.Objects.{Each, FirstFault, IsSource, HasNoUnits}
+use Rattle.file_commands.specs.InputObjects.{Each, FirstFault, IsSource, HasNoUnits}
 use Rattle.file_commands.proofs.objects.check_counted.Given as goal
 
 -- what the objects from here on come to is, behind the sources so far, what all objects come to

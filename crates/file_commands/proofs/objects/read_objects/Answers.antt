@@ -1,5 +1,5 @@
 use Rattle.std.proofs.Common.{ℕ, List, subst}
-use Rattle.file_commands.specs.Objects.{Spells, SpellsNone}
+use Rattle.file_commands.specs.InputObjects.{Spells, SpellsNone}
 use Rattle.file_commands.proofs.EachLemmas.{each_done, each_more, first_more, taken, none_taken, counted_on}
 use Rattle.file_commands.proofs.objects.read_objects.Goals as goal
 

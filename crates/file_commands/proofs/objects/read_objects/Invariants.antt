@@ -2,7 +2,7 @@ use Rattle.std.proofs.Common.{◌≡◌, ◌++◌, ℕ, List, length}
 use Rattle.std.specs.Vec.Iter.{into_iter_items, into_iter_len}
 use Rattle.st_base.specs.declared.fault.Fault.{Fault}
 use Rattle.aout_object.specs.Objects.{Contents as Object}
-use Rattle.file_commands.specs.Objects.{Each, FirstFault, Spells, SpellsNone}
+use Rattle.file_commands.specs.InputObjects.{Each, FirstFault, Spells, SpellsNone}
 use Rattle.file_commands.proofs.objects.read_objects.Given as goal
 
 -- what the texts from here on come to is, behind the objects so far, what all texts come to

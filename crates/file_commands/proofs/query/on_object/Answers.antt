@@ -1,5 +1,5 @@
 use Rattle.std.proofs.Common.{ap, Err}
-use Rattle.file_commands.specs.Replies.{RepliesOnWorld}
+use Rattle.file_commands.specs.QueryOutcomes.{RepliesOnWorld}
 use Rattle.file_commands.proofs.ReplyLemmas.{by_world_fault}
 use Rattle.file_commands.proofs.query.on_object.Goals as goal
 

@@ -1,5 +1,5 @@
 use Rattle.std.proofs.Common.{◌≡◌, ◌<◌, ◌^◌, drop}
-use Rattle.query_text.specs.Words.{digits_on}
+use Rattle.query_text.specs.QueryWords.{digits_on}
 use Rattle.query_text.proofs.address.number_of.Given as goal
 
 -- the digits so far spell the value, and those to come go on from it

@@ -1,5 +1,5 @@
 use Rattle.std.proofs.Common.{◌≡◌, ◌≤◌, length, drop}
-use Rattle.query_text.specs.Places as spec
+use Rattle.query_text.specs.WordPlaces as spec
 use Rattle.query_text.proofs.places.wrong_place.Given as goal
 
 -- the places and words from here on go wrong where all of them do

@@ -1,8 +1,8 @@
 use Rattle.std.proofs.Common.{◌≡◌, ◌≤◌, ◌+◌, length, drop, get_or, sym, ap, ◌∙◌, arith, Some, None}
 use Rattle.query_text.specs.declared.want.Keyword.{Keyword}
 use Rattle.query_text.specs.declared.want.Keyword.TheVariants.{Units}
-use Rattle.query_text.specs.Places.{wrong_place}
-use Rattle.query_text.specs.Words.{is_wanted}
+use Rattle.query_text.specs.WordPlaces.{wrong_place}
+use Rattle.query_text.specs.QueryWords.{is_wanted}
 use Rattle.query_text.specs.Queries as spec
 use Rattle.query_text.proofs.FormLemmas.{form_from-found, form_from-past, form_from-end}
 use Rattle.query_text.proofs.read.form_of.Goals as goal

@@ -1,7 +1,7 @@
 use Rattle.std.proofs.Common.{◌≡◌, ◌++◌, drop}
 use Rattle.std.specs.Prelude.{flat_map}
 use Rattle.std.specs.List.{enumerate_from}
-use Rattle.query_text.specs.Units as spec
+use Rattle.query_text.specs.UnitLines as spec
 use Rattle.query_text.proofs.units.units_text.Given as goal
 
 -- the lines so far and those still to come are all lines

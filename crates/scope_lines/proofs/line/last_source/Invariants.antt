@@ -1,6 +1,6 @@
 use Rattle.std.proofs.Common.{◌≡◌, take}
 use Rattle.scope_lines.specs.Lines.{is_source}
-use Rattle.scope_lines.specs.Places.{last_place}
+use Rattle.scope_lines.specs.ListPlaces.{last_place}
 use Rattle.scope_lines.proofs.line.last_source.Given as goal
 
 -- the last of those that were read

@@ -16,9 +16,9 @@ returns-then-entry-eq-N_SO-clause-found g c = λ all names start was. record {
 }
 
 -- the string of the entry has the fault
-pub returns-in-Err-clause-refused : goal.returns-in-Err-clause-refused
-returns-in-Err-clause-refused g c = λ f is all names start was.
-    c.in-Err.ensures.refused f is all names start (subst (λ (z : List Named). HasRead all names start c.loop-at.place z c.loop-at.reader c.loop-at.steps)
+pub returns-in-Err-clause-stopped : goal.returns-in-Err-clause-stopped
+returns-in-Err-clause-stopped g c = λ f is all names start was.
+    c.in-Err.ensures.stopped f is all names start (subst (λ (z : List Named). HasRead all names start c.loop-at.place z c.loop-at.reader c.loop-at.steps)
     (drop_item_slice c.args.rest.now c.loop-at.at c.index-rest-at.result c.loop-at-test.true c.index-rest-at.is) (c.loop-at.invariant.read all names start was))
 
 -- no entry is left

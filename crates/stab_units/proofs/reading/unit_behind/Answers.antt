@@ -19,8 +19,8 @@ returns-in-Ok-made_unit-clause-ticks g c =
     counted_all all c.args.span.now c.args.steps.now _ _ (c.in-Ok-read_inside.ensures.found all (names_of c.args.span.now) c.args.steps.now start)
 
 -- one of the strings has the fault
-pub returns-in-Err-clause-refused : goal.returns-in-Err-clause-refused
-returns-in-Err-clause-refused g c = λ f is.
+pub returns-in-Err-clause-stopped : goal.returns-in-Err-clause-stopped
+returns-in-Err-clause-stopped g c = λ f is.
     let same : c.in-Err.refusal ≡ Refused.At f = cc in
-    c.in-Err.ensures.refused f (ap Err same) (stabs_from [] (c.args.span.now.first + 1) c.args.rest.now) (names_of c.args.span.now) c.args.steps.now
+    c.in-Err.ensures.stopped f (ap Err same) (stabs_from [] (c.args.span.now.first + 1) c.args.rest.now) (names_of c.args.span.now) c.args.steps.now
     (c.new-reader.ensures.start (names_of c.args.span.now) c.args.steps.now (c.args.span.now.first + 1) c.args.rest.now c.in-Ok.ensures)

@@ -5,10 +5,10 @@ use Rattle.st_base.specs.declared.fault.Refused.TheVariants as refused
 use Rattle.st_base.specs.declared.order.Order.{Order}
 use Rattle.aout_object.specs.Objects.{Contents}
 use Rattle.aout_object.specs.Decoding.{Gives}
-use Rattle.asm_objects.specs.Making.{object_of}
-use Rattle.asm_statements.specs.Lines.{ReadsSource}
+use Rattle.asm_objects.specs.SourceMaking.{object_of}
+use Rattle.asm_statements.specs.SourceLines.{ReadsSource}
 use Rattle.stabs_asm.specs.Assembling.{assembled}
-use Rattle.asm_statements.specs.Lines.{read_source}
+use Rattle.asm_statements.specs.SourceLines.{read_source}
 use Rattle.asm_statements.specs.declared.statement.Statement.{Statement}
 use Rattle.stabs_asm.proofs.assembling.assemble.Goals as goal
 

@@ -2,7 +2,7 @@ use Rattle.std.proofs.Common.{◌≡◌}
 use Rattle.std.specs.List.{find}
 use Rattle.stab_symbols.specs.declared.tree.Key.{Key}
 use Rattle.type_graph.specs.Types.{is_name}
-use Rattle.type_graph.specs.Indexes.{symbol_in}
+use Rattle.type_graph.specs.TypeMaps.{symbol_in}
 use Rattle.type_graph.proofs.FrontLemmas.{front_symbols}
 use Rattle.type_graph.proofs.indexing.names.Given as goal
 

@@ -2,7 +2,7 @@ use Rattle.std.proofs.Common.{List, subst}
 use Rattle.stab_symbols.specs.declared.tree.Symbol.{Symbol}
 use Rattle.type_graph.specs.Types.{definitions_of}
 use Rattle.type_graph.specs.Searches.{definitions_in_file}
-use Rattle.type_graph.specs.Indexes.{HasNoted}
+use Rattle.type_graph.specs.TypeMaps.{HasNoted}
 use Rattle.type_graph.proofs.IndexLemmas.{noted-more}
 use Rattle.type_graph.proofs.indexing.note_all.Goals as goal
 

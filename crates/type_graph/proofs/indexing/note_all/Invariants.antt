@@ -1,6 +1,6 @@
 use Rattle.std.proofs.Common.{take}
 use Rattle.type_graph.specs.Searches.{file_definitions}
-use Rattle.type_graph.specs.Indexes.{HasNoted}
+use Rattle.type_graph.specs.TypeMaps.{HasNoted}
 use Rattle.type_graph.proofs.indexing.note_all.Given as goal
 
 -- the definitions so far are noted

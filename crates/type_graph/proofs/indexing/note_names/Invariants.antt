@@ -1,6 +1,6 @@
 use Rattle.std.proofs.Common.{◌≡◌, drop}
 use Rattle.stab_symbols.specs.declared.tree.Key.{Key}
-use Rattle.type_graph.specs.Indexes.{named_in, symbol_in}
+use Rattle.type_graph.specs.TypeMaps.{named_in, symbol_in}
 use Rattle.type_graph.proofs.indexing.note_names.Given as goal
 
 -- with the symbols that are left, it is what is known with all

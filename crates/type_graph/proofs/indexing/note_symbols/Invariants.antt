@@ -1,6 +1,6 @@
 use Rattle.std.proofs.Common.{take}
 use Rattle.type_graph.specs.Types.{definitions_of}
-use Rattle.type_graph.specs.Indexes.{HasNoted}
+use Rattle.type_graph.specs.TypeMaps.{HasNoted}
 use Rattle.type_graph.proofs.indexing.note_symbols.Given as goal
 
 -- the definitions so far are noted

@@ -1,6 +1,6 @@
-use Rattle.std.proofs.Common.{◌<◌, ◌≤◌, ◌∙◌, length, ap, subst, sym, arith, Option}
+use Rattle.std.proofs.Common.{◌<◌, ◌≤◌, ◌∙◌, length, ap, arith, Option}
 use Rattle.stab_symbols.specs.declared.tree.TypeTree.{TypeTree}
-use Rattle.type_graph.specs.Listings.{IsListing, surface_keys}
+use Rattle.type_graph.specs.Listings.{surface_keys}
 use Rattle.type_graph.specs.KeyLists.{joined}
 use Rattle.type_graph.proofs.WorkListLemmas.{all_there_are, listed-step, listed-bound, listed-all}
 use Rattle.type_graph.proofs.listings.listed.Goals as goal
@@ -20,5 +20,4 @@ loop-done-preserved c =
 
 -- all keys are done with
 pub returns : goal.returns
-returns c =
-    subst (IsListing c.args.index.now c.args.key) (sym c.into_keys.ensures) (listed-all c.args.index.now c.args.key c.loop-done.found c.loop-done.done c.loop-done.invariant (omega arith))
+returns c = listed-all c.args.index.now c.args.key c.loop-done.found c.loop-done.done c.loop-done.invariant (omega arith)

@@ -10,7 +10,7 @@ returns-in-Ok-clause-found g c = λ all names start was.
     c.in-Ok.ensures.found c.in-Ok.ensures.ticks (c.in_ok-pass.ensures.nests was.back was.nest) c.goes_on-self.ensures
 
 -- the string of the entry has the fault
-pub returns-in-Err-clause-refused : goal.returns-in-Err-clause-refused
-returns-in-Err-clause-refused g c = λ f is all names start was.
+pub returns-in-Err-clause-stopped : goal.returns-in-Err-clause-stopped
+returns-in-Err-clause-stopped g c = λ f is all names start was.
     read_fault all names start c.args.place c.args.entry.now c.args.behind.now c.args.self.now c.args.steps.now c.requires.inside was
-    c.begins_stab-begins.result c.begins_stab-begins.ensures c.file-file.result (c.file-file.ensures was.back was.nest) f (c.in-Err.ensures.refused f is)
+    c.begins_stab-begins.result c.begins_stab-begins.ensures c.file-file.result (c.file-file.ensures was.back was.nest) f c.take_stab.new.steps (c.in-Err.ensures.stopped f is)
