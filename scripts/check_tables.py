@@ -6,9 +6,10 @@ Both tables have each constant once, in the order of its file, with its number:
   | number | constant | cause | place | decided by | defined in |     the faults, st_base/src/fault.rt
   | status | constant | line | comes |                               the statuses, file_commands/src/outcome.rt
 
-`decided by` is `crate::function` or `crate::Type::method`, and several are parted by commas: the function stands in the sources of
-that crate, and so does the fault's constant. `defined in` is a file in the specs/ of a crate and a name that it defines, as
-`crates/strtab/specs/Names.antt` `HasName`, and several are parted by commas. A fault that no crate has yet is `-` in both.
+`decided by` is a file in the src/ of a crate and a function that stands in it, as `crates/strtab/src/table.rt` `name_at` or, for a
+method, `crates/strtab/src/builder.rt` `Builder::add`, and several are parted by commas; the sources of that crate name the fault's
+constant. `defined in` is a file in the specs/ of a crate and a name that it defines, as `crates/strtab/specs/Names.antt` `HasName`, and
+several are parted by commas. A fault that no crate has yet is `-` in both.
 """
 import glob
 import os
@@ -83,15 +84,17 @@ def parts_of(cell):
 
 def check_decided(constant, cell):
     for part in parts_of(cell):
-        path = re.fullmatch(r"`(\w+)::(?:\w+::)?(\w+)`", part)
+        path = re.fullmatch(r"`(crates/(\w+)/src/[\w/]+\.rt)` `(?:\w+::)?(\w+)`", part)
         if not path:
-            complain(f"{constant} is decided by {part}, not by `crate::function`")
+            complain(f"{constant} is decided by {part}, not by `crates/CRATE/src/FILE.rt` `FUNCTION`")
             continue
-        text = "\n".join(sources_of(path[1]).values())
-        if not re.search(rf"\bfn {path[2]}\b", text):
-            complain(f"{constant} is decided by {part}, which is no function in crates/{path[1]}/src")
-        elif not re.search(rf"\b{constant}\b", text):
-            complain(f"{constant} is decided by {part}, but crates/{path[1]}/src does not name it")
+        texts = sources_of(path[2])
+        if path[1] not in texts:
+            complain(f"{constant} is decided by {part}, whose file is missing")
+        elif not re.search(rf"\bfn {path[3]}\b", texts[path[1]]):
+            complain(f"{constant} is decided by {part}, which is no function of that file")
+        elif not re.search(rf"\b{constant}\b", "\n".join(texts.values())):
+            complain(f"{constant} is decided by {part}, but crates/{path[2]}/src does not name it")
 
 
 def check_defined(constant, cell):
