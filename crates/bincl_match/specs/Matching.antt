@@ -49,7 +49,7 @@ Among pairs i j = Contains pairs (i, j) ⊎ Contains pairs (j, i)
 abbrev pub InOneClass : List RangeOf → ℕ → ℕ → Type 0
 InOneClass ranges i j = (i ≡ j) ⊎ ((pairs : List (ℕ × ℕ)) × IsMatching ranges (Among pairs) × Among pairs i j)
 
--- range k is kept for range i: it is the first of its class in the order of the list, which is that of the entries in the order of the list, which is that of the entries
+-- range k is kept for range i: it is the first of its class in the order of the list, which is that of the entries
 abbrev pub IsKept : List RangeOf → ℕ → ℕ → Type 0
 IsKept ranges i k = InOneClass ranges i k × ((j : ℕ) → InOneClass ranges i j → k ≤ j)
 

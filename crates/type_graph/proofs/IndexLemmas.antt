@@ -21,6 +21,7 @@ use Rattle.type_graph.specs.Types.{definitions_of, file_symbols}
 use Rattle.type_graph.specs.Searches.{counts, noted, noted_all, file_definitions}
 use Rattle.type_graph.specs.TypeMaps.{body_in, is_noted, has_stray, HasNoted, Notes, HasDefinitions}
 use Rattle.type_graph.proofs.KeyLemmas.{which, same_key-decides}
+use Rattle.type_graph.proofs.KeyListLemmas.{or_false, or_assoc}
 use Rattle.type_graph.proofs.SearchLemmas.{noted-append, noted-first}
 use Rattle.type_graph.proofs.OrderLemmas.{own_and_all, first-in_order}
 use Rattle.type_graph.proofs.FrontLemmas.{front_symbols, front-none, front-here, front-other}
@@ -53,14 +54,6 @@ pub noted-here : (only : Option ℕ) (key : Key) (known : Option TypeTree) (d : 
 noted-here only key known d is = sym (ap (λ (b : Bool). cond b (noted key known d) known) is) ∙ noted-where only key known d
 
 -- ---- many definitions
-
-or_false : (b : Bool) → (b || false) ≡ b
-or_false true = refl
-or_false false = refl
-
-or_assoc : (a b c : Bool) → ((a || b) || c) ≡ (a || (b || c))
-or_assoc true b c = refl
-or_assoc false b c = refl
 
 -- noting none
 pub noted-none : (old : Noting) → HasNoted old [] old

@@ -41,7 +41,7 @@ has-decides keys key = is_member-Decides same_key-decides keys key
 pub has-append : (keys more : List Key) (key : Key) → has (keys ++ more) key ≡ (has keys key || has more key)
 has-append keys more key = list_any-append (same_key key) keys more
 
-or_false : (b : Bool) → (b || false) ≡ b
+pub or_false : (b : Bool) → (b || false) ≡ b
 or_false true = refl
 or_false false = refl
 
@@ -64,7 +64,7 @@ has-added keys new key = ⊎_elim
     (λ e. ap (λ (b : Bool). has (cond b keys (keys ++ new ∷ [])) key) e ∙ has-push keys new key)
     (which (has keys new))
 
-or_assoc : (a b c : Bool) → ((a || b) || c) ≡ (a || (b || c))
+pub or_assoc : (a b c : Bool) → ((a || b) || c) ≡ (a || (b || c))
 or_assoc true b c = refl
 or_assoc false b c = refl
 
