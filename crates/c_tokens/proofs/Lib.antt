@@ -1,0 +1,6 @@
+mod Examples
+mod NumberLemmas
+mod FrontLemmas
+mod PieceLemmas
+mod WordLemmas
+mod ShortLemmas
