@@ -4,7 +4,7 @@ use Rattle.std.specs.Prelude.{count_by, option_map, cond, if◌then◌else◌}
 use Rattle.std.proofs.lemmas.List.Sums.{sum_by-cons}
 use Rattle.c_tokens.specs.Fronts.{front_of, is_line_feed}
 use Rattle.c_tokens.specs.Scanning.{Placed, pieces, with_piece, line_behind, fresh_behind}
-use Rattle.c_tokens.specs.Pieces.{piece_of, Fronts}
+use Rattle.c_tokens.specs.Pieces.{piece_of, GivesFront}
 use Rattle.c_tokens.specs.declared.piece.Piece.{Piece}
 
 -- the line behind bytes: one more for each line feed
@@ -37,7 +37,7 @@ first_kept (suc size) (b ∷ bytes) some = refl
 
 -- what stands in front, and then the pieces of what stands behind it
 pub front_taken : (fresh : Bool) (line : ℕ) (bytes : List ℕ) (piece : Option Piece) (size : ℕ) → 0 < length bytes
-    → Fronts piece size (front_of fresh (get_or bytes 0 0) (drop 1 bytes))
+    → GivesFront piece size (front_of fresh (get_or bytes 0 0) (drop 1 bytes))
     → pieces 0 fresh line bytes
     ≡ with_piece (option_map piece_of piece) line (pieces 0 (fresh_behind fresh (get_or bytes 0 0)) (line + count_by is_line_feed (take size bytes)) (drop size bytes))
 front_taken fresh line [] piece size some front = absurd (omega arith)
@@ -53,7 +53,7 @@ front_taken fresh line (b ∷ bytes) piece size some front =
 
 -- a front that the code has cut off
 pub cut_off : (fresh next : Bool) (line feeds : ℕ) (bytes taken behind : List ℕ) (piece known : Option Piece) (size : ℕ) (whole : List Placed) → pieces 0 fresh line bytes ≡ whole
-    → 0 < length bytes → Fronts piece size (front_of fresh (get_or bytes 0 0) (drop 1 bytes)) → taken ≡ take size bytes → behind ≡ drop size bytes
+    → 0 < length bytes → GivesFront piece size (front_of fresh (get_or bytes 0 0) (drop 1 bytes)) → taken ≡ take size bytes → behind ≡ drop size bytes
     → feeds ≡ count_by is_line_feed taken → next ≡ fresh_behind fresh (get_or taken 0 0) → piece ≡ known
     → whole ≡ with_piece (option_map piece_of known) line (pieces 0 next (line + feeds) behind)
 cut_off fresh next line feeds bytes taken behind piece known size whole is some front front_is behind_is feeds_are next_is known_is =

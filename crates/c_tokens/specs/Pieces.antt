@@ -16,7 +16,7 @@ abbrev pub placed_of : PieceOfCode × ℕ → Placed
 placed_of p = (piece_of p.0, p.1)
 
 -- the code gives this front: its piece, and all of its bytes
-pub record Fronts (piece : Option PieceOfCode) (size : ℕ) (front : Front) : Type 0 where
+pub record GivesFront (piece : Option PieceOfCode) (size : ℕ) (front : Front) : Type 0 where
   pub gives : option_map piece_of piece ≡ front.piece
   pub takes : size ≡ 1 + front.more
 

@@ -1,10 +1,9 @@
 //! What stands in front of a source, and how many bytes it takes.
 
-ghost use Rattle.std.specs.Prelude.{◌≡◌, ◌≤◌, ◌<◌, ◌+◌, ◌∷◌, length, drop, get_or, false, option_map, IfSome};
+ghost use Rattle.std.specs.Prelude.{◌≡◌, ◌≤◌, ◌<◌, ◌+◌, length, drop, get_or, false, option_map, IfSome};
 ghost use Rattle.std.specs.List.{prefix_len, list_all};
-ghost use Rattle.std.specs.Option.{option_copied};
 ghost use Rattle.c_tokens.specs.Fronts as spec;
-ghost use Rattle.c_tokens.specs.Pieces.{piece_of, Fronts};
+ghost use Rattle.c_tokens.specs.Pieces.{piece_of, GivesFront};
 
 use crate::kind::Kind;
 use crate::piece::{Piece, mark, named};
@@ -130,7 +129,7 @@ fn opens_comment(byte: u8, rest: &[u8]) -> bool
 // A comment, or one that is not closed, behind its `/`.
 fn comment<'a>(rest: &'a [u8]) -> (Option<Piece<'a>>, usize)
     requires { 0 < length rest.now }
-    ensures front { Fronts result.0 result.1 (spec.comment rest.now) }
+    ensures front { GivesFront result.0 result.1 (spec.comment rest.now) }
     ensures within { result.1 ≤ 1 + length rest.now }
 {
     match comment_end(&rest[1..]) {
@@ -170,7 +169,7 @@ fn include_name<'a>(line: &'a [u8]) -> Option<&'a [u8]>
 
 // The line of an include behind its `#`, or a `#` alone.
 fn include<'a>(rest: &'a [u8], fresh: bool) -> (Option<Piece<'a>>, usize)
-    ensures front { Fronts result.0 result.1 (spec.include fresh rest.now) }
+    ensures front { GivesFront result.0 result.1 (spec.include fresh rest.now) }
     ensures within { result.1 ≤ 1 + length rest.now }
 {
     if !fresh {
@@ -205,7 +204,7 @@ fn mark_of(byte: u8) -> Kind
 // A name or word in front.
 fn name<'a>(bytes: &'a [u8]) -> (Option<Piece<'a>>, usize)
     requires { 0 < length bytes.now }
-    ensures front { Fronts result.0 result.1 (spec.name (get_or bytes.now 0 0) (drop 1 bytes.now)) }
+    ensures front { GivesFront result.0 result.1 (spec.name (get_or bytes.now 0 0) (drop 1 bytes.now)) }
     ensures within { result.1 ≤ length bytes.now }
 {
     let size = name_len(&bytes[1..]) + 1;
@@ -215,7 +214,7 @@ fn name<'a>(bytes: &'a [u8]) -> (Option<Piece<'a>>, usize)
 // A number in front.
 fn digits<'a>(bytes: &'a [u8]) -> (Option<Piece<'a>>, usize)
     requires { 0 < length bytes.now }
-    ensures front { Fronts result.0 result.1 (spec.digits (get_or bytes.now 0 0) (drop 1 bytes.now)) }
+    ensures front { GivesFront result.0 result.1 (spec.digits (get_or bytes.now 0 0) (drop 1 bytes.now)) }
     ensures within { result.1 ≤ length bytes.now }
 {
     let size = digits_len(&bytes[1..]) + 1;
@@ -226,7 +225,7 @@ fn digits<'a>(bytes: &'a [u8]) -> (Option<Piece<'a>>, usize)
 /// before it on its line. Takes no memory.
 pub(crate) fn front<'a>(bytes: &'a [u8], fresh: bool) -> (Option<Piece<'a>>, usize)
     requires { 0 < length bytes.now }
-    ensures front { Fronts result.0 result.1 (spec.front_of fresh (get_or bytes.now 0 0) (drop 1 bytes.now)) }
+    ensures front { GivesFront result.0 result.1 (spec.front_of fresh (get_or bytes.now 0 0) (drop 1 bytes.now)) }
     ensures within { result.1 ≤ length bytes.now }
 {
     let byte = bytes[0];

@@ -1,4 +1,4 @@
-ghost use Rattle.std.specs.Prelude.{◌≡◌, ◌∷◌, ◌<◌, ◌≤◌, ◌+◌, ◌^◌, option_map, length, count_by, true, false};
+ghost use Rattle.std.specs.Prelude.{◌≡◌, ◌∷◌, ◌<◌, ◌≤◌, ◌^◌, option_map, length, count_by, true, false};
 ghost use Rattle.c_tokens.specs.Fronts.{is_line_feed};
 ghost use Rattle.c_tokens.specs.Pieces.{placed_of, Takes, TakesWord};
 ghost use Rattle.c_tokens.specs.Scanning as spec;
