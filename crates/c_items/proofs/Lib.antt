@@ -1,0 +1,8 @@
+pub mod TakenLemmas
+mod Fronts
+mod FoundLemmas
+mod GrowLemmas
+mod EndLemmas
+mod ActLemmas
+pub mod OnceLemmas
+mod Examples
