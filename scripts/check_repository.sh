@@ -51,6 +51,9 @@ fi
 # ---- many of anything, and limits
 scripts/check_limits.py || complain "the program is wrong on many, or at a limit"
 
+# ---- no memory, and failing calls of the system
+scripts/each_failure.py >/dev/null || complain "the program is wrong where memory or the system fails"
+
 # ---- the edge of the program: what its tests in memory cannot see
 ends . 2 'usage: word 0'
 ends . 2 'usage: word 0' aks a.o
