@@ -79,10 +79,13 @@ void *realloc(void *old, size_t size) {
 }
 
 int open(const char *path, int flags, ...) {
-    va_list more;
-    va_start(more, flags);
-    int mode = va_arg(more, int);
-    va_end(more);
+    int mode = 0;
+    if (flags & O_CREAT) {
+        va_list more;
+        va_start(more, flags);
+        mode = va_arg(more, int);
+        va_end(more);
+    }
     if (fails('o')) { errno = EACCES; return -1; }
     return syscall(SYS_open, path, flags, mode);
 }

@@ -8,7 +8,7 @@ use Rattle.c_tokens.specs.Tokens.{Info}
 use Rattle.c_items.specs.Trees.{Qualifiers, Simple, Declarator, Fields, Specifier, Takes, Parameters, Statements, Storage, Item}
 use Rattle.c_units.specs.declared.draft.Draft.{Draft}
 use Rattle.c_units.specs.Drafts.{extent_of, declared_size, declared_extent}
-use Rattle.c_units.specs.Lines.{local_mark, block_begin_mark, from_start, block_end_mark, line_mark, code_line}
+use Rattle.c_types.specs.Lines.{local_mark, block_begin_mark, from_start, block_end_mark, line_mark, code_line}
 use Rattle.c_units.specs.Tags.{mention, cross, begin_body, complete, typedef_type}
 use Rattle.c_units.specs.Layouts.{add_field, close_body}
 use Rattle.c_units.specs.Declarations.{give_name, add_variable}

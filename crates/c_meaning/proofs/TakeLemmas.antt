@@ -7,7 +7,7 @@ use Rattle.st_base.specs.declared.fault.Refused.TheVariants.{At, Memory}
 use Rattle.c_items.specs.Trees.{Item}
 use Rattle.c_items.specs.Acts.{item_acts}
 use Rattle.c_items.specs.Acting.{Did, all_acted}
-use Rattle.c_units.specs.Acts.{on_ok, Answers}
+use Rattle.c_types.specs.Acts.{on_ok, Answers}
 use Rattle.c_meaning.specs.declared.walk.Walk.{Walk}
 use Rattle.c_meaning.specs.Meaning.{of_item}
 use Rattle.c_meaning.specs.Walking.{act, ready, done}

@@ -10,16 +10,17 @@ use Rattle.c_items.specs.Trees.{Qualifiers, Value, Choices, Simple, Length, Decl
 use Rattle.c_items.specs.Acts.{Act, qualifiers_acts, simple_acts, stars_acts, lengths_acts, declarator_acts, fields_acts, choices_acts, value_acts, specifier_acts, typedef_specifier_acts, item_acts, locals_acts, statements_acts, parameters_acts, takes_acts, function_acts}
 use Rattle.c_items.specs.Acting.{all_acted, on_ok}
 use Rattle.c_items.proofs.OnceLemmas.{one_acts}
-use Rattle.c_units.specs.declared.ctype.Qualifiers.{Qualifiers as Marks}
-use Rattle.c_units.specs.declared.ctype.CType.{CType}
-use Rattle.c_units.specs.declared.ctype.Mention.{Mention}
-use Rattle.c_units.specs.declared.ctype.Word.{Word}
-use Rattle.c_units.specs.declared.ctype.Word.TheVariants as word
+use Rattle.c_types.specs.declared.ctype.Qualifiers.{Qualifiers as Marks}
+use Rattle.c_types.specs.declared.ctype.CType.{CType}
+use Rattle.c_types.specs.declared.ctype.Mention.{Mention}
+use Rattle.c_types.specs.declared.ctype.Word.{Word}
+use Rattle.c_types.specs.declared.ctype.Word.TheVariants as word
 use Rattle.c_units.specs.declared.choices.Whole.{Whole}
 use Rattle.c_units.specs.declared.choices.Listed.{Listed}
 use Rattle.c_units.specs.declared.layout.Layout.{Layout}
 use Rattle.c_units.specs.declared.draft.Draft.{Draft}
-use Rattle.c_units.specs.Tags.{typedef_type, tag_type, mention, cross, begin_body}
+use Rattle.c_types.specs.Types.{tag_type}
+use Rattle.c_units.specs.Tags.{typedef_type, mention, cross, begin_body}
 use Rattle.c_units.specs.Choices.{no_choices, add_choice, close_enum}
 use Rattle.c_units.specs.Layouts.{empty, close_body}
 use Rattle.c_units.specs.Declarations.{give_name, add_typedef, add_variable, add_static, add_extern}

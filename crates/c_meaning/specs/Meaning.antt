@@ -4,19 +4,20 @@ use Rattle.std.specs.Prelude.{ℕ, ◌==◌, if◌then◌else◌, Bool, true, fa
 use Rattle.st_base.specs.declared.fault.Fault.{Fault}
 use Rattle.c_tokens.specs.Tokens.{Info}
 use Rattle.c_items.specs.Trees.{Qualifiers, Value, Choices, Simple, Length, Declarator, Fields, Specifier, TypedefSpecifier, Local, Statements, Parameters, Takes, Storage, Item}
-use Rattle.c_units.specs.declared.ctype.Qualifiers.{Qualifiers as Marks}
-use Rattle.c_units.specs.declared.ctype.CType.{CType}
-use Rattle.c_units.specs.declared.ctype.Declared.{Declared}
-use Rattle.c_units.specs.declared.ctype.Mention.{Mention}
-use Rattle.c_units.specs.declared.ctype.Word.{Word}
-use Rattle.c_units.specs.declared.ctype.Word.TheVariants as word
+use Rattle.c_types.specs.declared.ctype.Qualifiers.{Qualifiers as Marks}
+use Rattle.c_types.specs.declared.ctype.CType.{CType}
+use Rattle.c_types.specs.declared.ctype.Declared.{Declared}
+use Rattle.c_types.specs.declared.ctype.Mention.{Mention}
+use Rattle.c_types.specs.declared.ctype.Word.{Word}
+use Rattle.c_types.specs.declared.ctype.Word.TheVariants as word
 use Rattle.c_units.specs.declared.choices.Whole.{Whole}
 use Rattle.c_units.specs.declared.choices.Listed.{Listed}
 use Rattle.c_units.specs.declared.layout.Layout.{Layout}
 use Rattle.c_units.specs.declared.draft.Draft.{Draft}
-use Rattle.c_units.specs.Acts.{on_ok}
-use Rattle.c_units.specs.Types.{basic_type}
-use Rattle.c_units.specs.Tags.{typedef_type, tag_type, mention, cross, begin_body}
+use Rattle.c_types.specs.Acts.{on_ok}
+use Rattle.c_types.specs.Types.{basic_type}
+use Rattle.c_types.specs.Types.{tag_type}
+use Rattle.c_units.specs.Tags.{typedef_type, mention, cross, begin_body}
 use Rattle.c_units.specs.Choices.{no_choices, add_choice, close_enum}
 use Rattle.c_units.specs.Layouts.{empty, add_field, close_body}
 use Rattle.c_units.specs.Declarations.{give_name, add_typedef, add_variable, add_static, add_extern}

@@ -4,13 +4,14 @@ use Rattle.st_base.specs.declared.fault.Fault.{Fault}
 use Rattle.c_tokens.specs.Tokens.{Info}
 use Rattle.c_items.specs.declared.role.Role.{Role}
 use Rattle.c_items.specs.declared.role.Role.TheVariants as r
-use Rattle.c_units.specs.declared.ctype.Qualifiers.{Qualifiers as Marks}
-use Rattle.c_units.specs.declared.ctype.CType.{CType}
-use Rattle.c_units.specs.declared.ctype.Mention.{Mention}
-use Rattle.c_units.specs.declared.ctype.Word.TheVariants as word
+use Rattle.c_types.specs.declared.ctype.Qualifiers.{Qualifiers as Marks}
+use Rattle.c_types.specs.declared.ctype.CType.{CType}
+use Rattle.c_types.specs.declared.ctype.Mention.{Mention}
+use Rattle.c_types.specs.declared.ctype.Word.TheVariants as word
 use Rattle.c_units.specs.declared.draft.Draft.{Draft}
-use Rattle.c_units.specs.Types.{basic_type}
-use Rattle.c_units.specs.Tags.{typedef_type, tag_type, mention, cross, begin_body}
+use Rattle.c_types.specs.Types.{basic_type}
+use Rattle.c_types.specs.Types.{tag_type}
+use Rattle.c_units.specs.Tags.{typedef_type, mention, cross, begin_body}
 use Rattle.c_units.specs.Choices.{no_choices, add_choice, close_enum}
 use Rattle.c_units.specs.Layouts.{empty, add_field, close_body}
 use Rattle.c_units.specs.Declarations.{give_name, add_typedef, add_variable, add_static, add_extern}
@@ -107,8 +108,8 @@ begun w None = Ok w.draft
 begun w (Some m) = begin_body m w.part.tag_line w.draft
 
 -- the same, as it stands in the walk
-abbrev pub body_act : Walk → Result Walk Fault
-body_act w = begun w w.part.tag >>= λ u. Ok (record w { draft = u })
+abbrev pub begin_act : Walk → Result Walk Fault
+begin_act w = begun w w.part.tag >>= λ u. Ok (record w { draft = u })
 
 -- a body is open
 abbrev pub opened : Walk → Draft → Walk
@@ -206,18 +207,18 @@ end_act r.FunctionEnd i w = block_end w
 end_act _ i w = Ok w
 
 -- what a token of a body or of choices does
-abbrev pub body_act_of : Role → Info → Walk → Result Walk Fault
-body_act_of r.Body i w = open_act w
-body_act_of r.Nameless i w = Ok (opened w w.draft)
-body_act_of r.FieldEnd i w = field_end i w w.frames
-body_act_of r.BodyEnd i w = body_end i w w.frames
-body_act_of r.Choices i w = body_act w
-body_act_of r.Choice i w = Ok (changed w (record w.part { name = i.text }))
-body_act_of r.Minus i w = Ok (changed w (record w.part { below = true }))
-body_act_of r.Number i w = Ok (changed w (record w.part { value = Some (record { below = w.part.below; size = i.number }) }))
-body_act_of r.ChoiceEnd i w = choice_act i w
-body_act_of r.ChoicesEnd i w = choices_act i w
-body_act_of a i w = end_act a i w
+abbrev pub body_act : Role → Info → Walk → Result Walk Fault
+body_act r.Body i w = open_act w
+body_act r.Nameless i w = Ok (opened w w.draft)
+body_act r.FieldEnd i w = field_end i w w.frames
+body_act r.BodyEnd i w = body_end i w w.frames
+body_act r.Choices i w = begin_act w
+body_act r.Choice i w = Ok (changed w (record w.part { name = i.text }))
+body_act r.Minus i w = Ok (changed w (record w.part { below = true }))
+body_act r.Number i w = Ok (changed w (record w.part { value = Some (record { below = w.part.below; size = i.number }) }))
+body_act r.ChoiceEnd i w = choice_act i w
+body_act r.ChoicesEnd i w = choices_act i w
+body_act a i w = end_act a i w
 
 -- what a token of this role does
 abbrev pub act : Role → Info → Walk → Result Walk Fault
@@ -236,4 +237,4 @@ act r.Declared i w = declared_act i w
 act r.GivenName i w = name_act give_name i (settled w)
 act r.ParameterName i w = name_act give_param i (settled w)
 act r.LocalName i w = name_act give_local i (settled w)
-act a i w = body_act_of a i w
+act a i w = body_act a i w

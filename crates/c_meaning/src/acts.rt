@@ -54,7 +54,7 @@ impl Walk {
 impl Walk {
     // The body of the tag in front begins.
     pub(crate) fn begin_body(&mut self) -> Result<(), Refused>
-        ensures { Did (spec.body_act self.old) self.new result }
+        ensures { Did (spec.begin_act self.old) self.new result }
     {
         if let Some(mention) = self.part.tag {
             self.draft.begin_body(mention, self.part.tag_line)?;

@@ -69,7 +69,7 @@ impl Walk {
 
     // What a token of a body or of choices does.
     fn body_act(&mut self, alloc: Global, role: Role, token: &Token<'_>) -> Result<(), Refused>
-        ensures { Did (spec.body_act_of role token.now.1 self.old) self.new result }
+        ensures { Did (spec.body_act role token.now.1 self.old) self.new result }
     {
         match role {
             Role::Body => self.open_body(alloc),

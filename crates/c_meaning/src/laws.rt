@@ -4,7 +4,7 @@ ghost use Rattle.c_items.specs.Trees.{Item, BeginsWith};
 ghost use Rattle.c_items.specs.Acts.{item_acts};
 ghost use Rattle.c_items.specs.Acting.{all_acted};
 ghost use Rattle.c_units.specs.declared.draft.Draft.{Draft as DraftValue};
-ghost use Rattle.c_units.specs.Acts.{on_ok};
+ghost use Rattle.c_types.specs.Acts.{on_ok};
 ghost use Rattle.c_meaning.specs.Meaning.{of_item};
 ghost use Rattle.c_meaning.specs.Walking.{act, ready, done};
 

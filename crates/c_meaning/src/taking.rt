@@ -1,7 +1,7 @@
 ghost use Rattle.std.specs.Prelude.{◌≡◌, List};
 ghost use Rattle.c_tokens.specs.Tokens.{Token};
 ghost use Rattle.c_items.specs.Trees.{Item, BeginsWith};
-ghost use Rattle.c_units.specs.Acts.{Answers};
+ghost use Rattle.c_types.specs.Acts.{Answers};
 ghost use Rattle.c_meaning.specs.Meaning.{of_item};
 
 use crate::carrying::Carrier;

@@ -1,10 +1,10 @@
 -- Worked values: where fields stand, and the sizes of bodies and arrays.
 use Rattle.std.proofs.Common.{◌≡◌, ◌≢◌, [], ◌∷◌, refl}
-use Rattle.c_units.specs.declared.sizes.Alignment.TheVariants.{One, Four}
-use Rattle.c_units.specs.declared.ctype.Word.{Word}
-use Rattle.c_units.specs.declared.ctype.Word.TheVariants as word
+use Rattle.c_types.specs.declared.sizes.Alignment.TheVariants.{One, Four}
+use Rattle.c_types.specs.declared.ctype.Word.{Word}
+use Rattle.c_types.specs.declared.ctype.Word.TheVariants as word
 use Rattle.c_units.specs.declared.layout.Layout.{Layout}
-use Rattle.c_units.specs.Sizes.{array_extent}
+use Rattle.c_types.specs.Sizes.{array_extent}
 use Rattle.c_units.specs.Layouts.{empty, with_field, body_size, place_in}
 
 -- a place for a field of four bytes behind one byte, in a structure and in a union

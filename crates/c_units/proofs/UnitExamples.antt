@@ -4,16 +4,17 @@ use Rattle.std.specs.Prelude.{codes, decimal}
 use Rattle.std.proofs.lemmas.Fmt.{decimal_digit, decimal_step}
 use Rattle.std.proofs.Math.Dec.{lit<, lit≤}
 use Rattle.st_base.specs.declared.fault.Fault.{Fault}
-use Rattle.c_units.specs.declared.ctype.Word.TheVariants as word
-use Rattle.c_units.specs.declared.ctype.CType.{CType}
-use Rattle.c_units.specs.declared.ctype.Declared.{Declared}
-use Rattle.c_units.specs.declared.ctype.Mention.{Mention}
+use Rattle.c_types.specs.declared.ctype.Word.TheVariants as word
+use Rattle.c_types.specs.declared.ctype.CType.{CType}
+use Rattle.c_types.specs.declared.ctype.Declared.{Declared}
+use Rattle.c_types.specs.declared.ctype.Mention.{Mention}
 use Rattle.c_units.specs.declared.draft.Draft.{Draft}
-use Rattle.c_units.specs.Acts.{on_ok}
-use Rattle.c_units.specs.Types.{basic_type}
+use Rattle.c_types.specs.Acts.{on_ok}
+use Rattle.c_types.specs.Types.{basic_type}
 use Rattle.c_units.specs.Drafts.{extent_of, declared_size, declared_extent}
-use Rattle.c_units.specs.Lines.{local_mark, block_begin_mark, from_start, block_end_mark, line_mark, code_line}
-use Rattle.c_units.specs.Tags.{mention, begin_body, complete, tag_type, typedef_type}
+use Rattle.c_types.specs.Lines.{local_mark, block_begin_mark, from_start, block_end_mark, line_mark, code_line}
+use Rattle.c_types.specs.Types.{tag_type}
+use Rattle.c_units.specs.Tags.{mention, begin_body, complete, typedef_type}
 use Rattle.c_units.specs.Layouts.{empty, add_field, close_body}
 use Rattle.c_units.specs.Declarations.{add_variable, add_extern}
 use Rattle.c_units.specs.Functions.{begin_function, give_param, add_param, begin_block, end_locals, give_local, add_local, add_statement, end_block}

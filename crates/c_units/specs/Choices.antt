@@ -2,12 +2,12 @@
 use Rattle.std.specs.Prelude.{ℕ, ◌+◌, ◌-◌, ◌==◌, nat_le, if◌then◌else◌, Bool, true, false, List, [], ◌∷◌, ◌++◌, Option, Some, None, Result, decimal}
 use Rattle.st_base.specs.declared.fault.Fault.{Fault}
 use Rattle.st_base.specs.declared.fault.TheConstants.{C_LARGE}
-use Rattle.c_units.specs.declared.ctype.CType.{CType}
-use Rattle.c_units.specs.declared.ctype.Mention.{Mention}
+use Rattle.c_types.specs.declared.ctype.CType.{CType}
+use Rattle.c_types.specs.declared.ctype.Mention.{Mention}
 use Rattle.c_units.specs.declared.choices.Whole.{Whole}
 use Rattle.c_units.specs.declared.choices.Listed.{Listed}
 use Rattle.c_units.specs.declared.draft.Draft.{Draft}
-use Rattle.c_units.specs.Sizes.{word_extent}
+use Rattle.c_types.specs.Sizes.{word_extent}
 use Rattle.c_units.specs.Drafts.{fault, number_limit, is_over, unless}
 use Rattle.c_units.specs.Tags.{closed}
 

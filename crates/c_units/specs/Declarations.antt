@@ -3,17 +3,17 @@ use Rattle.std.specs.Prelude.{ℕ, ◌+◌, ◌||◌, List, Option, Some, None, 
 use Rattle.st_base.specs.FirstUses.{used}
 use Rattle.st_base.specs.declared.fault.Fault.{Fault}
 use Rattle.st_base.specs.declared.fault.TheConstants.{C_AGAIN, C_INCOMPLETE, C_LARGE}
-use Rattle.c_units.specs.declared.sizes.Extent.{Extent}
-use Rattle.c_units.specs.declared.sizes.Size.{Size}
-use Rattle.c_units.specs.declared.sizes.TheConstants.{SIZE_LIMIT}
-use Rattle.c_units.specs.declared.ctype.Declared.{Declared}
+use Rattle.c_types.specs.declared.sizes.Extent.{Extent}
+use Rattle.c_types.specs.declared.sizes.Size.{Size}
+use Rattle.c_types.specs.declared.sizes.TheConstants.{SIZE_LIMIT}
+use Rattle.c_types.specs.declared.ctype.Declared.{Declared}
 use Rattle.c_units.specs.declared.draft.Draft.{Draft}
-use Rattle.c_units.specs.Acts.{on_ok}
-use Rattle.c_units.specs.Sizes.{padded}
-use Rattle.c_units.specs.Named.{given, same_name}
+use Rattle.c_types.specs.Acts.{on_ok}
+use Rattle.c_types.specs.Sizes.{padded}
+use Rattle.c_types.specs.Named.{given, same_name}
 use Rattle.c_units.specs.Drafts.{fault, number_limit, is_over, unless, with_text, next_number, extent_of, declared_size, declared_extent, is_large}
-use Rattle.c_units.specs.Lines.{definition_line, variable_lines, static_lines}
-use Rattle.c_units.specs.Types.{declared_text}
+use Rattle.c_types.specs.Lines.{definition_line, variable_lines, static_lines}
+use Rattle.c_types.specs.Types.{declared_text}
 
 -- a name of the unit is given, again where it was given before
 unfoldable pub give_name : List ℕ → ℕ → Draft → Result Draft Fault

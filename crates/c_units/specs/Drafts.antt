@@ -2,15 +2,15 @@
 use Rattle.std.specs.Prelude.{ℕ, zero, suc, ◌+◌, nat_le, if◌then◌else◌, Bool, false, List, [], ◌∷◌, ◌++◌, Option, Some, None, Result, Ok, Err, slice_get}
 use Rattle.std.specs.Option.{option_map, option_and_then}
 use Rattle.st_base.specs.declared.fault.Fault.{Fault}
-use Rattle.c_units.specs.declared.sizes.Extent.{Extent}
-use Rattle.c_units.specs.declared.sizes.Size.{Size}
-use Rattle.c_units.specs.declared.sizes.Size.TheVariants as size
-use Rattle.c_units.specs.declared.sizes.TheConstants.{SIZE_LIMIT}
-use Rattle.c_units.specs.declared.ctype.Tag.{Tag}
-use Rattle.c_units.specs.declared.ctype.Declared.{Declared}
-use Rattle.c_units.specs.declared.ctype.TypeNumber.{TypeNumber}
+use Rattle.c_types.specs.declared.sizes.Extent.{Extent}
+use Rattle.c_types.specs.declared.sizes.Size.{Size}
+use Rattle.c_types.specs.declared.sizes.Size.TheVariants as size
+use Rattle.c_types.specs.declared.sizes.TheConstants.{SIZE_LIMIT}
+use Rattle.c_types.specs.declared.ctype.Tag.{Tag}
+use Rattle.c_types.specs.declared.ctype.Declared.{Declared}
+use Rattle.c_types.specs.declared.ctype.TypeNumber.{TypeNumber}
 use Rattle.c_units.specs.declared.draft.Draft.{Draft}
-use Rattle.c_units.specs.Sizes.{array_extent, word_extent}
+use Rattle.c_types.specs.Sizes.{array_extent, word_extent}
 
 -- the greatest number of a type, and of a line that a stab has room for
 abbrev pub number_limit : ℕ

@@ -4,9 +4,9 @@ use Rattle.st_base.specs.declared.fault.Fault.{Fault}
 use Rattle.st_base.specs.declared.fault.TheConstants.{C_LARGE}
 use Rattle.c_units.specs.declared.draft.Draft.{Draft}
 use Rattle.c_units.specs.declared.draft.Outer.{Outer}
-use Rattle.c_units.specs.Stacks.{top, below}
+use Rattle.c_types.specs.Stacks.{top, below}
 use Rattle.c_units.specs.Drafts.{fault, file_limit, is_over, unless, with_text}
-use Rattle.c_units.specs.Lines.{stabs_front, text_front, end_lines, header_line, header_end_line, symbol_line}
+use Rattle.c_types.specs.Lines.{stabs_front, text_front, end_lines, header_line, header_end_line, symbol_line}
 
 -- the symbols of the twelve basic types, by their numbers from 1
 abbrev pub basic_symbols : List (List ℕ)

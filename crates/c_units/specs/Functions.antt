@@ -1,21 +1,19 @@
 -- Functions of a unit: parameters, blocks, locals and statements.
-use Rattle.std.specs.Prelude.{ℕ, ◌+◌, ◌==◌, ◌&&◌, ◌||◌, not, if◌then◌else◌, Bool, true, false, List, [], ◌∷◌, Option, Some, None, Result, Ok, Err}
+use Rattle.std.specs.Prelude.{ℕ, ◌+◌, ◌&&◌, ◌||◌, not, if◌then◌else◌, Bool, true, false, List, [], ◌∷◌, Option, Some, None, Result, Ok, Err}
 use Rattle.st_base.specs.declared.fault.Fault.{Fault}
 use Rattle.st_base.specs.declared.fault.TheConstants.{C_AGAIN, C_INCOMPLETE, C_LARGE}
-use Rattle.c_units.specs.declared.sizes.Extent.{Extent}
-use Rattle.c_units.specs.declared.sizes.TheConstants.{SIZE_LIMIT}
-use Rattle.c_units.specs.declared.ctype.Declared.{Declared}
-use Rattle.c_units.specs.declared.ctype.Spelling.{Spelling}
-use Rattle.c_units.specs.declared.ctype.Spelling.TheVariants.{Numbered, Body}
+use Rattle.c_types.specs.declared.sizes.Extent.{Extent}
+use Rattle.c_types.specs.declared.sizes.TheConstants.{SIZE_LIMIT}
+use Rattle.c_types.specs.declared.ctype.Declared.{Declared}
 use Rattle.c_units.specs.declared.draft.Draft.{Draft}
 use Rattle.c_units.specs.declared.draft.Scope.{Scope}
-use Rattle.c_units.specs.Acts.{on_ok}
-use Rattle.c_units.specs.Sizes.{padded}
-use Rattle.c_units.specs.Named.{given}
-use Rattle.c_units.specs.Stacks.{top, below}
+use Rattle.c_types.specs.Acts.{on_ok}
+use Rattle.c_types.specs.Sizes.{padded}
+use Rattle.c_types.specs.Named.{given}
+use Rattle.c_types.specs.Stacks.{top, below}
 use Rattle.c_units.specs.Drafts.{fault, number_limit, line_limit, is_over, unless, with_text, next_number, declared_extent}
-use Rattle.c_units.specs.Lines.{function_lines, param_line, local_line, numbered_local_line, block_begin_lines, block_end_lines, statement_lines}
-use Rattle.c_units.specs.Types.{declared_text, is_none}
+use Rattle.c_types.specs.Lines.{function_lines, param_line, local_line, numbered_local_line, block_begin_lines, block_end_lines, statement_lines}
+use Rattle.c_types.specs.Types.{declared_text, is_numbered}
 
 -- the first parameter of a function is at this place of its frame
 abbrev pub first_param : ℕ
@@ -93,15 +91,6 @@ local_given (Some s) name line u =
 -- the name of a local is given in the innermost block, again where that block has it
 unfoldable pub give_local : List ℕ → ℕ → Draft → Result Draft Fault
 give_local name line u = local_given (top u.scopes) name line u
-
-abbrev pub is_number : Spelling → Bool
-is_number (Numbered number) = true
-is_number (Body text) = false
-
--- the type is a number alone
-abbrev pub is_numbered : Declared → Bool
-is_numbered d =
-    is_none d.lengths && (d.stars == 0 && (not d.qualifiers.constant && (not d.qualifiers.volatile && is_number d.base.spelling)))
 
 -- a local at its place; a type that is not a number alone takes the next number
 abbrev pub with_local : List ℕ → Declared → Draft → Draft

@@ -2,20 +2,20 @@
 use Rattle.std.specs.Prelude.{ℕ, ◌+◌, ◌*◌, nat_le, if◌then◌else◌, List, [], ◌∷◌, ◌++◌, Option, Some, None, Result, Err, decimal}
 use Rattle.st_base.specs.declared.fault.Fault.{Fault}
 use Rattle.st_base.specs.declared.fault.TheConstants.{C_INCOMPLETE, C_LARGE}
-use Rattle.c_units.specs.declared.sizes.Alignment.TheVariants.{One}
-use Rattle.c_units.specs.declared.sizes.Extent.{Extent}
-use Rattle.c_units.specs.declared.sizes.TheConstants.{SIZE_LIMIT}
-use Rattle.c_units.specs.declared.ctype.Word.{Word}
-use Rattle.c_units.specs.declared.ctype.Word.TheVariants as word
-use Rattle.c_units.specs.declared.ctype.Declared.{Declared}
-use Rattle.c_units.specs.declared.ctype.CType.{CType}
-use Rattle.c_units.specs.declared.ctype.Mention.{Mention}
+use Rattle.c_types.specs.declared.sizes.Alignment.TheVariants.{One}
+use Rattle.c_types.specs.declared.sizes.Extent.{Extent}
+use Rattle.c_types.specs.declared.sizes.TheConstants.{SIZE_LIMIT}
+use Rattle.c_types.specs.declared.ctype.Word.{Word}
+use Rattle.c_types.specs.declared.ctype.Word.TheVariants as word
+use Rattle.c_types.specs.declared.ctype.Declared.{Declared}
+use Rattle.c_types.specs.declared.ctype.CType.{CType}
+use Rattle.c_types.specs.declared.ctype.Mention.{Mention}
 use Rattle.c_units.specs.declared.layout.Layout.{Layout}
 use Rattle.c_units.specs.declared.draft.Draft.{Draft}
-use Rattle.c_units.specs.Sizes.{greater, rounded, cut}
+use Rattle.c_types.specs.Sizes.{greater, rounded, cut}
 use Rattle.c_units.specs.Drafts.{fault, is_over, unless, declared_extent}
 use Rattle.c_units.specs.Tags.{closed}
-use Rattle.c_units.specs.Types.{letter, declared_text}
+use Rattle.c_types.specs.Types.{letter, declared_text}
 
 -- a body without fields yet
 abbrev pub empty : Word → Layout

@@ -1,13 +1,7 @@
-pub mod Acts
 pub mod Choices
 pub mod Declarations
 pub mod Drafts
 pub mod Files
 pub mod Functions
 pub mod Layouts
-pub mod Lines
-pub mod Named
-pub mod Sizes
-pub mod Stacks
 pub mod Tags
-pub mod Types

@@ -5,20 +5,20 @@ use Rattle.std.specs.Map.{lookup}
 use Rattle.st_base.specs.FirstUses.{used}
 use Rattle.st_base.specs.declared.fault.Fault.{Fault}
 use Rattle.st_base.specs.declared.fault.TheConstants.{C_UNKNOWN, C_AGAIN, C_LARGE}
-use Rattle.c_units.specs.declared.sizes.Extent.{Extent}
-use Rattle.c_units.specs.declared.sizes.Size.TheVariants as size
-use Rattle.c_units.specs.declared.ctype.Word.{Word}
-use Rattle.c_units.specs.declared.ctype.TypeNumber.{TypeNumber}
-use Rattle.c_units.specs.declared.ctype.Tag.{Tag}
-use Rattle.c_units.specs.declared.ctype.Typedef.{Typedef}
-use Rattle.c_units.specs.declared.ctype.CType.{CType}
-use Rattle.c_units.specs.declared.ctype.Spelling.TheVariants.{Numbered, Body}
-use Rattle.c_units.specs.declared.ctype.Mention.{Mention}
+use Rattle.c_types.specs.declared.sizes.Extent.{Extent}
+use Rattle.c_types.specs.declared.sizes.Size.TheVariants as size
+use Rattle.c_types.specs.declared.ctype.Word.{Word}
+use Rattle.c_types.specs.declared.ctype.TypeNumber.{TypeNumber}
+use Rattle.c_types.specs.declared.ctype.Tag.{Tag}
+use Rattle.c_types.specs.declared.ctype.Typedef.{Typedef}
+use Rattle.c_types.specs.declared.ctype.CType.{CType}
+use Rattle.c_types.specs.declared.ctype.Spelling.TheVariants.{Numbered, Body}
+use Rattle.c_types.specs.declared.ctype.Mention.{Mention}
 use Rattle.c_units.specs.declared.draft.Draft.{Draft}
 use Rattle.c_units.specs.Drafts.{fault, number_limit, is_over, unless, with_text, next_number}
-use Rattle.c_units.specs.Lines.{definition_line}
-use Rattle.c_units.specs.Named.{name_at}
-use Rattle.c_units.specs.Types.{letter}
+use Rattle.c_types.specs.Lines.{definition_line}
+use Rattle.c_types.specs.Named.{name_at}
+use Rattle.c_types.specs.Types.{letter, tag_type}
 
 -- ---- the type of a word
 
@@ -30,10 +30,6 @@ typedef_found (Some t) unknown = Ok (record { spelling = Numbered t.number; size
 -- the type of a name in front of a declarator; unknown where it is no typedef
 unfoldable pub typedef_type : List ℕ → ℕ → Draft → Result CType Fault
 typedef_type name line u = typedef_found (lookup (bytes_eq name) u.typedefs) (fault C_UNKNOWN line u)
-
--- the type of a tag that was mentioned
-abbrev pub tag_type : Mention → CType
-tag_type m = record { spelling = Numbered m.number; size = size.OfTag m.place }
 
 -- ---- mentions
 

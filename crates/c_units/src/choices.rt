@@ -1,11 +1,10 @@
 ghost use Rattle.std.specs.Prelude.{◌≡◌, ◌++◌, OnOk, IfOk, false};
-ghost use Rattle.c_units.specs.Acts.{Acts};
+ghost use Rattle.c_types.specs.Acts.{Acts};
 ghost use Rattle.c_units.specs.Choices as spec;
 
-use crate::ctype::{CType, Mention};
 use crate::draft::Draft;
-use crate::sizes::{Alignment, Extent};
 use crate::tags::NUMBER_LIMIT;
+use c_types::{Alignment, CType, Extent, Mention};
 use st_base::{C_LARGE, Memory, Refused, Text, put_number};
 use std::alloc::Global;
 

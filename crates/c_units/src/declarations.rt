@@ -1,13 +1,14 @@
 ghost use Rattle.std.specs.Prelude.{◌≡◌, ◌+◌, ◌<◌, ◌^◌};
-ghost use Rattle.c_units.specs.Acts.{Acts};
+ghost use Rattle.c_types.specs.Acts.{Acts};
 ghost use Rattle.c_units.specs.Declarations as spec;
-ghost use Rattle.c_units.specs.Sizes as sizes;
+ghost use Rattle.c_types.specs.Sizes as sizes;
 
-use crate::ctype::{Declared, Typedef};
 use crate::draft::Draft;
-use crate::lines::{put_static, put_typedef, put_variable};
-use crate::sizes::{Alignment, Extent, SIZE_LIMIT, rounded};
 use crate::tags::NUMBER_LIMIT;
+use c_types::{
+    Alignment, Declared, Extent, SIZE_LIMIT, Typedef, put_static, put_typedef, put_variable,
+    rounded,
+};
 use st_base::{C_AGAIN, C_INCOMPLETE, C_LARGE, Refused};
 
 // A sum of sizes with one more, which is padded to 4.

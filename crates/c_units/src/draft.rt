@@ -1,11 +1,9 @@
 ghost use Rattle.std.specs.Prelude.{◌≡◌};
 ghost use Rattle.c_units.specs.Drafts as spec;
 
-use crate::ctype::{Declared, Tag};
-use crate::names::Names;
-use crate::sizes::{Alignment, Extent, SIZE_LIMIT, Size, array_extent};
-use crate::stack::Stack;
-use crate::typedefs::Typedefs;
+use c_types::{
+    Alignment, Declared, Extent, Names, SIZE_LIMIT, Size, Stack, Tag, Typedefs, array_extent,
+};
 use st_base::{Fault, List, Text};
 
 /// A header that is read inside another file: what is known of the outer file, which goes on behind it.

@@ -1,12 +1,10 @@
 ghost use Rattle.std.specs.Prelude.{◌≡◌, ◌++◌, IfOk, OnOk};
-ghost use Rattle.c_units.specs.Acts.{Acts};
+ghost use Rattle.c_types.specs.Acts.{Acts};
 ghost use Rattle.c_units.specs.Files as spec;
-ghost use Rattle.c_units.specs.Lines as lines;
+ghost use Rattle.c_types.specs.Lines as lines;
 
 use crate::draft::{Draft, Outer};
-use crate::names::Names;
-use crate::stack::Stack;
-use crate::typedefs::Typedefs;
+use c_types::{Names, Stack, Typedefs};
 use st_base::{C_LARGE, List, Memory, Refused, Text};
 use std::alloc::Global;
 
@@ -38,7 +36,7 @@ fn basic_lines() -> &'static [u8]
     BASIC_LINES
 }
 
-#[tactic(auto, unfolding(crate::specs::Lines::text_front))]
+#[tactic(auto, unfolding(c_types::specs::Lines::text_front))]
 fn put_text_front(out: &mut Text) -> Result<(), Memory>
     ensures { OnOk result (out.new ≡ out.old ++ lines.text_front) }
 {

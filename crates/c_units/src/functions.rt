@@ -1,17 +1,14 @@
 ghost use Rattle.std.specs.Prelude.{◌≡◌, OnOk, false};
-ghost use Rattle.c_units.specs.Acts.{Acts};
+ghost use Rattle.c_types.specs.Acts.{Acts};
 ghost use Rattle.c_units.specs.Functions as spec;
 
-use crate::ctype::{Declared, Spelling};
 use crate::declarations::padded_sum;
 use crate::draft::{Draft, Scope};
-use crate::lines::{
-    put_block_begin, put_block_end, put_function, put_local, put_numbered_local, put_param,
-    put_statement,
-};
-use crate::names::Names;
-use crate::sizes::SIZE_LIMIT;
 use crate::tags::NUMBER_LIMIT;
+use c_types::{
+    Declared, Names, SIZE_LIMIT, Spelling, put_block_begin, put_block_end, put_function, put_local,
+    put_numbered_local, put_param, put_statement,
+};
 use st_base::{C_AGAIN, C_INCOMPLETE, C_LARGE, Memory, Refused};
 use std::alloc::Global;
 
@@ -20,30 +17,6 @@ pub const LINE_LIMIT: u64 = 65535;
 
 /// The place of a function's first parameter in its frame.
 const FIRST_PARAM: u32 = 8;
-
-impl Declared {
-    /// Whether the type is a number alone. Takes no memory.
-    pub fn is_numbered(&self) -> bool
-        ensures { result ≡ spec.is_numbered self.now }
-    {
-        self.lengths.items().is_empty()
-            && self.stars == 0
-            && !self.qualifiers.constant
-            && !self.qualifiers.volatile
-            && self.base.spelling.is_number()
-    }
-}
-
-impl Spelling {
-    fn is_number(&self) -> bool
-        ensures { result ≡ spec.is_number self.now }
-    {
-        match self {
-            Spelling::Numbered(_) => true,
-            Spelling::Body(_) => false,
-        }
-    }
-}
 
 impl Draft {
     /// A function of this result begins, without parameters so far. Its arrays are those of its result, which has none. Refused as

@@ -1,13 +1,13 @@
 ghost use Rattle.std.specs.Prelude.{◌≡◌, ◌++◌, OnOk, ◌+◌, ◌<◌, ◌≤◌, ◌^◌};
-ghost use Rattle.c_units.specs.Acts.{Acts, Gives};
+ghost use Rattle.c_types.specs.Acts.{Acts, Gives};
 ghost use Rattle.c_units.specs.Layouts as spec;
-ghost use Rattle.c_units.specs.Types as types;
-ghost use Rattle.c_units.specs.Sizes as sizes;
+ghost use Rattle.c_types.specs.Types as types;
+ghost use Rattle.c_types.specs.Sizes as sizes;
 
-use crate::ctype::{CType, Declared, Mention, Word};
 use crate::draft::Draft;
-use crate::lines::put_declared;
-use crate::sizes::{Alignment, Extent, SIZE_LIMIT, cut, rounded};
+use c_types::{
+    Alignment, CType, Declared, Extent, Mention, SIZE_LIMIT, Word, cut, put_declared, rounded,
+};
 use st_base::{C_INCOMPLETE, C_LARGE, Memory, Refused, Text, put_number};
 use std::alloc::Global;
 

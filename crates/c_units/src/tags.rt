@@ -1,42 +1,20 @@
 ghost use Rattle.std.specs.Prelude.{◌≡◌, ◌++◌, IfOk, OnOk, codes, slice_get};
-ghost use Rattle.c_units.specs.Acts.{Acts, Gives, with_same};
+ghost use Rattle.c_types.specs.Acts.{Acts, Gives, with_same};
 ghost use Rattle.c_units.specs.Drafts.{fault as fault_in, next_number as number_of};
 ghost use Rattle.c_units.specs.Tags as spec;
-ghost use Rattle.c_units.specs.Types as types;
-ghost use Rattle.c_units.specs.Named.{name_at};
-ghost use Rattle.c_units.specs.Lines as lines;
+ghost use Rattle.c_types.specs.Types as types;
+ghost use Rattle.c_types.specs.Named.{name_at};
+ghost use Rattle.c_types.specs.Lines as lines;
 
-use crate::ctype::{CType, Mention, Spelling, Tag, TypeNumber, Word};
 use crate::draft::Draft;
-use crate::lines::{put_symbol_end, put_type_number};
-use crate::names::Names;
-use crate::sizes::{Extent, Size};
+use c_types::{
+    CType, Extent, Mention, Names, Size, Spelling, Tag, TypeNumber, Word, put_symbol_end,
+    put_type_number,
+};
 use st_base::{C_AGAIN, C_LARGE, C_UNKNOWN, Fault, List, Memory, Refused, Text};
 
 /// The greatest number of a type in a file.
 pub const NUMBER_LIMIT: u32 = 2_147_483_647;
-
-impl CType {
-    /// The basic type of this number, 1 to 12, where 10 is `void`. Takes no memory.
-    pub fn basic(number: u32) -> CType
-        ensures { result ≡ types.basic_type number }
-    {
-        CType {
-            spelling: Spelling::Numbered(TypeNumber { file: 0, number }),
-            size: Size::of_basic(number),
-        }
-    }
-
-    /// The type of a tag that was mentioned. Takes no memory.
-    pub fn of_tag(mention: Mention) -> CType
-        ensures { result ≡ spec.tag_type mention }
-    {
-        CType {
-            spelling: Spelling::Numbered(mention.number),
-            size: Size::OfTag(mention.place),
-        }
-    }
-}
 
 fn put_front(out: &mut Text, names: &Names, mention: Mention) -> Result<(), Memory>
     ensures { OnOk result (out.new ≡ out.old

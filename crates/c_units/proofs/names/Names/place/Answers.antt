@@ -1,8 +1,0 @@
-use Rattle.std.proofs.Common.{ap, ◌∙◌, position}
-use Rattle.std.specs.Str.{bytes_eq}
-use Rattle.c_units.proofs.NameLemmas.{place-words}
-use Rattle.c_units.proofs.names.Names.place.Goals as goal
-
-pub returns : goal.returns
-returns c =
-    c.get_index_of.ensures.index ∙ place-words (bytes_eq c.args.name.now) c.self.inside.set.keys ∙ ap (position (bytes_eq c.args.name.now)) c.self.view_is
